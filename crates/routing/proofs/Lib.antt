@@ -1,0 +1,9 @@
+pub mod Climbing
+pub mod Marking
+pub mod Turns
+pub mod Recorded
+pub mod Chained
+pub mod Wholes
+pub mod Chaining
+pub mod Dividing
+pub mod Room

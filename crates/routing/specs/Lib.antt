@@ -1,0 +1,3 @@
+pub mod Climbed
+pub mod Found
+pub mod Placed
