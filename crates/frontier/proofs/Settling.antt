@@ -3,6 +3,7 @@
 --   answer                      what a spot becomes by an offer
 use mathlib.Core.Path.{_≡_, refl, sym, ap, _∙_}
 use mathlib.Core.Bool.{Bool, true, false, cond, not, _&&_, _||_}
+use lib.Dec.{eqb}
 use mathlib.Core.List.{List}
 use mathlib.Core.Logic.{⊎-elim}
 use Prim.Native.Nat.{ℕ, _+_, _<_, _≤_}
@@ -24,25 +25,19 @@ abbrev pub answer : (K : Kind) → ℕ → Price K → Spot K → Spot K
 answer K v p s = (cond (not (s .2) && cheaper K p (s .0)) p (s .0), cond (not (s .2) && cheaper K p (s .0)) v (s .1), s .2)
 
 module _ {K : Kind} (step : ℕ → ℕ → Price K) (front : Front K) (v x : ℕ) where
+  -- what becomes of x, by whether it is the place settled
+  settle-at : (b : Bool) → eqb x v ≡ b → let p = add K (front .reached v) (step v x) in let t = not (b || front .settled x) && cheaper K p (front .reached x) in
+      spot (settle step front v) x ≡ (cond t p (front .reached x), cond t v (front .from x), b || front .settled x)
+  settle-at b e =
+      let p = add K (front .reached v) (step v x) in
+      let c = cheaper K p (front .reached x) in
+      λ i. (cond (not (e i || front .settled x) && c) p (front .reached x), cond (not (e i || front .settled x) && c) v (front .from x), e i || front .settled x)
+
   pub settle-here : x ≡ v → spot (settle step front v) x ≡ (front .reached x, front .from x, true)
-  settle-here h =
-      let e = eq-eqb x v h in
-      let c = cheaper K (add K (front .reached v) (step v x)) (front .reached x) in
-      λ i. (
-        cond (not (e i || front .settled x) && c) (add K (front .reached v) (step v x)) (front .reached x),
-        cond (not (e i || front .settled x) && c) v (front .from x),
-        e i || front .settled x,
-      )
+  settle-here h = settle-at true (eq-eqb x v h)
 
   pub settle-there : (x ≡ v → ⊥) → spot (settle step front v) x ≡ answer K v (add K (front .reached v) (step v x)) (spot front x)
-  settle-there h =
-      let e = ne-eqb x v h in
-      let c = cheaper K (add K (front .reached v) (step v x)) (front .reached x) in
-      λ i. (
-        cond (not (e i || front .settled x) && c) (add K (front .reached v) (step v x)) (front .reached x),
-        cond (not (e i || front .settled x) && c) v (front .from x),
-        e i || front .settled x,
-      )
+  settle-there h = settle-at false (ne-eqb x v h)
 
 module _ {C : Type 0} (k : Costs C) where
   -- an offer of less, or of no less, than the cost of a place that waits
