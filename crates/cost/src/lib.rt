@@ -1,4 +1,6 @@
 //! Costs: what a way may cost, how costs add up, and which of two is less.
+#![tactic(auto)]
+
 ghost use Rattle.std.specs.Prelude.{◌≡◌, ℕ, ◌^◌, ◌<◌, ◌≤◌, Bool};
 ghost use denote.Memory.{lone};
 ghost use prog.Memory.{align, size};

@@ -2,6 +2,8 @@
 //!
 //! It is kept in a lent record table, one record for each place, and in a row of flags for the places that wait: those reached and
 //! not settled.
+#![tactic(auto)]
+
 ghost use Rattle.std.specs.Prelude.{◌≡◌, ℕ, ◌+◌, ◌<◌, ◌≤◌, Bool, true, false, List, length, drop, if◌then◌else◌, Some, None, Option, slice_index_or, slice_set};
 ghost use Rattle.hierarchy.specs.Kinds.{kind_of, add};
 ghost use Rattle.hierarchy.specs.Searches.{begin, nearest as nearest_of, settle as settled_by, table_after, tally as tally_of};

@@ -1,4 +1,6 @@
 //! Grounds: places, the ways between them, and which places are shut.
+#![tactic(auto)]
+
 ghost use Rattle.std.specs.Prelude.{◌≡◌, ℕ, Bool, Option};
 ghost use Rattle.ground.specs.Grounds.{GroundLaws, OnlyWayCosts};
 ghost use Rattle.ground.specs.Shutting.{Shut, Cleared};

@@ -6,5 +6,5 @@ use ground::Ground;
 
 /// By every rule, and for every number of levels from 1, levelling the ground makes a well levelled book.
 pub fn levelling_keeps<G: Ground>(ground: &G)
-    ensures { LevellingKeeps (land_of C-as-Cost G.Ground ground.now) }
+    ensures { LevellingKeeps (land_of G.C.Cost G.Ground ground.now) }
 {}

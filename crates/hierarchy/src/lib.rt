@@ -1,4 +1,6 @@
 //! What the planner means: walks, links, levelling, search, layout, answers and seasons. The definitions are in specs/.
+#![tactic(auto)]
+
 ghost use Rattle.hierarchy.specs.Samples.{Samples, SeasonSamples};
 
 use ground::Refusal;

@@ -6,5 +6,5 @@ use ground::Ground;
 
 /// Every season on the ground keeps the guarantee.
 pub fn season_keeps<G: Ground>(ground: &G)
-    ensures { SeasonKept (terrain_of C-as-Cost G.Ground ground.now) (G.Ground.shuts ground.now) }
+    ensures { SeasonKept (terrain_of G.C.Cost G.Ground ground.now) (G.Ground.shuts ground.now) }
 {}

@@ -1,4 +1,6 @@
 //! Levelling: the book, and how it is made.
+#![tactic(auto)]
+
 mod aside;
 pub mod book;
 mod detours;

@@ -1,4 +1,6 @@
 //! Routing over a levelled ground: climbing, the search, and the layout of what it finds.
+#![tactic(auto)]
+
 pub mod climb;
 pub mod find;
 pub mod laid;

@@ -69,7 +69,7 @@ fn search_route<C: Cost>(
 
 // Whether a route may be searched: both places are on the ground and free, and there is a record for each place.
 fn check_ends<G: Ground>(ground: &G, from: usize, to: usize, records: usize) -> Result<(), Refusal>
-    ensures is { result ≡ outcome (before_search (land_of C-as-Cost G.Ground ground.now) from to records) }
+    ensures is { result ≡ outcome (before_search (land_of G.C.Cost G.Ground ground.now) from to records) }
     ensures asked { OnOk result ((from < G.Ground.size ground.now) × (to < G.Ground.size ground.now) × (G.Ground.size ground.now ≤ records)) }
 {
     let size = ground.size();

@@ -1,4 +1,6 @@
 //! Shortcut rules: which pairs of places may have a shortcut.
+#![tactic(auto)]
+
 ghost use Rattle.std.specs.Prelude.{◌≡◌, ℕ, Bool};
 ghost use Rattle.rule.specs.Rules.{no_pair, same_valley};
 

@@ -1,4 +1,6 @@
 //! Sheets: cells in rows.
+#![tactic(auto)]
+
 ghost use Rattle.std.specs.Prelude.{◌≡◌, ◌*◌};
 
 use ground::places::Places;

@@ -1,4 +1,6 @@
 //! Surveys a few built-in grounds: what the checks answer, what the accepted grounds hold, and what shutting and clearing do.
+#![tactic(auto)]
+
 use std::io;
 
 mod changes;

@@ -1,4 +1,6 @@
 //! Trail lists: places that are joined by records of what each way costs.
+#![tactic(auto)]
+
 use ground::places::Places;
 
 mod check;

@@ -1,4 +1,4 @@
-use Rattle.std.proofs.Common.{◌≡◌, ◌<◌, length, get_or, arith}
+use Rattle.std.proofs.Common.{◌≡◌, ◌<◌, Bool, length, get_or, set, arith}
 use Rattle.std.proofs.lemmas.List.{get_or_default, length-set}
 use Rattle.frontier.specs.Fronts.{blank}
 use Rattle.frontier.proofs.Settling.{records_more, flags_more, settled}
@@ -12,9 +12,10 @@ loop-other-preserved g c =
     let x = c.loop-other.other in
     let t : x < length c.args.table.now = omega arith in
     let w : x < length c.args.waiting.now = omega arith in
+    let kept : (b : Bool) → x < length (set c.args.waiting.now v b) = λ b. simp length-set w in
     let inv = c.loop-other.invariant in (
-      records_more k step v _ _ _ x (simp length-set t) (simp length-set w) _ _ inv.0 inv.1 _ c.offer.ensures.table,
-      flags_more k step v _ _ _ x (simp length-set t) (simp length-set w) _ _ inv.0 inv.1 _ c.offer.ensures.waiting,
+      records_more k step v _ _ _ x (simp length-set t) (kept _) _ _ inv.0 inv.1 _ c.offer.ensures.table,
+      flags_more k step v _ _ _ x (simp length-set t) (kept _) _ _ inv.0 inv.1 _ c.offer.ensures.waiting,
     )
 
 pub returns : goal.returns

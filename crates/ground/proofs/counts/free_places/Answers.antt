@@ -14,8 +14,8 @@ loop-place-preserved g c =
     elim c.if-not-is_shut.branch [
       | then-not-is_shut w ↦
           let unshut : s k ≡ false = sym c.is_shut.ensures ∙ w.if-not-is_shut.true in
-          (omega (arith, w.free_is), w.free_is ∙ count_yes (free_under n s) k _ c.loop-place.invariant.1 (and_from (ltb k n) _ here (not_from_false (s k) unshut)))
+          (omega (arith, w.free-is), w.free-is ∙ count_yes (free_under n s) k _ c.loop-place.invariant.1 (and_from (ltb k n) _ here (not_from_false (s k) unshut)))
       | else-not-is_shut w ↦
           let shut : s k ≡ true = sym c.is_shut.ensures ∙ w.if-not-is_shut.false in
-          (omega (arith, w.free_is), w.free_is ∙ count_no (free_under n s) k _ c.loop-place.invariant.1 (and_right (ltb k n) _ (not_from_true (s k) shut)))
+          (omega (arith, w.free-is), w.free-is ∙ count_no (free_under n s) k _ c.loop-place.invariant.1 (and_right (ltb k n) _ (not_from_true (s k) shut)))
     ]

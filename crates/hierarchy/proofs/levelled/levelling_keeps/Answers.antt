@@ -7,4 +7,4 @@ pub returns : goal.returns
 returns g c =
     let ground = c.args.ground.now in
     let shut = g.G.Ground.shuts ground in
-    well_levelled (land_of g.C.Cost g.G.Ground ground) (lawful_land (terrain_of g.C.Cost g.G.Ground ground) shut (g.G.Ground.laws ground) shut)
+    well_levelled (land_of g.G.C.Cost g.G.Ground ground) (lawful_land (terrain_of g.G.C.Cost g.G.Ground ground) shut (g.G.Ground.laws ground) shut)

@@ -17,9 +17,9 @@ loop-to-preserved g c =
     let mid = meaning k c.loop-to.book in
     let P : Book g.row.C.Denot → Type 0 = λ b. RowWritten (leaves marks a) (i + 1) a old (meaning k b) in
     elim c.if-beaten-from.branch [
-      | then-beaten-from w ↦ subst P (sym w.book_is)
+      | then-beaten-from w ↦ subst P (sym w.book-is)
           (way_left a i (omega arith) (omega arith) old mid marks w.if-beaten-from.true (c.loop-to.invariant.shortcuts ∙ c.requires.1.1) c.loop-to.invariant _ w.set_aside.ensures)
-      | else-beaten-from w ↦ subst P (sym w.book_is) (none_left a i old mid marks w.if-beaten-from.false c.loop-to.invariant)
+      | else-beaten-from w ↦ subst P (sym w.book-is) (none_left a i old mid marks w.if-beaten-from.false c.loop-to.invariant)
     ]
 
 pub returns : goal.returns

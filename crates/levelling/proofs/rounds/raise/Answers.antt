@@ -18,8 +18,8 @@ loop-place-preserved g c =
     let now = meaning k c.loop-place.book in
     let P : Book g.row.C.Denot → Type 0 = λ b. RaisedTo i old (p + 1) (meaning k b) in
     elim c.if-level-lower.branch [
-      | then-level-lower w ↦ subst P (sym w.book_is) (raises i old p now c.loop-place.invariant (omega arith) (sym c.level.ensures ∙ w.if-level-lower.true) _ w.set_level.ensures)
-      | else-level-lower w ↦ subst P (sym w.book_is) (leaves_be i old p now c.loop-place.invariant (λ e. w.if-level-lower.false (c.level.ensures ∙ e)))
+      | then-level-lower w ↦ subst P (sym w.book-is) (raises i old p now c.loop-place.invariant (omega arith) (sym c.level.ensures ∙ w.if-level-lower.true) _ w.set_level.ensures)
+      | else-level-lower w ↦ subst P (sym w.book-is) (leaves_be i old p now c.loop-place.invariant (λ e. w.if-level-lower.false (c.level.ensures ∙ e)))
     ]
 
 pub returns : goal.returns

@@ -29,14 +29,14 @@ loop-place-preserved g c =
     let any : Land (kind_of k) = record { size = c.args.size; free = λ x. false; way = λ x y. None } in
     elim c.if-level-lower.branch [
       | then-level-lower w ↦ (
-        λ land e. subst (λ b. VisitsLeft land rule i (v + 1) (meaning k b) (whole land)) (sym w.book_is)
+        λ land e. subst (λ b. VisitsLeft land rule i (v + 1) (meaning k b) (whole land)) (sym w.book-is)
             (visited land rule i v now _ _ (omega (arith, e)) (sym c.level.ensures ∙ w.if-level-lower.true) (w.visit.ensures land e) (inv.0 land e)),
-        subst Bounded (sym w.book_is) (λ x. subst (λ n. n ≤ i + 1) (ap (λ b. b.level x) (sym (w.visit.ensures any refl))) (visit-bounded any rule i now v inv.1 x)),
+        subst Bounded (sym w.book-is) (λ x. subst (λ n. n ≤ i + 1) (ap (λ b. b.level x) (sym (w.visit.ensures any refl))) (visit-bounded any rule i now v inv.1 x)),
       )
       | else-level-lower w ↦ (
-        λ land e. subst (λ b. VisitsLeft land rule i (v + 1) (meaning k b) (whole land)) (sym w.book_is)
+        λ land e. subst (λ b. VisitsLeft land rule i (v + 1) (meaning k b) (whole land)) (sym w.book-is)
             (passed land rule i v now _ (omega (arith, e)) (λ h. w.if-level-lower.false (c.level.ensures ∙ h)) (inv.0 land e)),
-        subst Bounded (sym w.book_is) inv.1,
+        subst Bounded (sym w.book-is) inv.1,
       )
     ]
 

@@ -21,10 +21,10 @@ loop-to-preserved g c =
     elim c.match-way.branch [
       | in-Some w ↦
           let on : a < g.G.Ground.size ground = ⊎_elim (λ h. h) (λ h. absurd (true≢false (ap is_some (w.in-Some.ensures.is ∙ laws.within _ a i h)))) (cases_lt a _) in
-          subst P (sym w.book_is)
+          subst P (sym w.book-is)
           (way-entered a i (omega (arith, laws.few)) (omega (arith, laws.few, c.size-to-end.ensures)) old mid way w.in-Some.cost (sym w.in-Some.ensures.is) c.loop-to.invariant _
           w.keep_way.ensures)
-      | in_default w ↦ subst P (sym w.book_is) (none_entered a i old mid way (sym w.in_default.ensures.is) c.loop-to.invariant)
+      | in_default w ↦ subst P (sym w.book-is) (none_entered a i old mid way (sym w.in_default.ensures.is) c.loop-to.invariant)
     ]
 
 pub returns : goal.returns

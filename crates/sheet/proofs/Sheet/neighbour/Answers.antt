@@ -3,7 +3,7 @@ use Rattle.std.proofs.lemmas.Nat.{mul-add-lt}
 use Rattle.sheet.proofs.Moves.{moved-below}
 use Rattle.sheet.proofs.Sheet.neighbour.Goals as goal
 
-on-sheet : (c : goal.In-ok-column) → c.in_ok-row.row * c.args.self.now.width + c.in_ok-column.column < 257
+on-sheet : (c : goal.In_ok-column) → c.in_ok-row.row * c.args.self.now.width + c.in_ok-column.column < 257
 on-sheet c =
     let w = c.args.self.now.width in
     let h = c.args.self.now.height in

@@ -11,7 +11,7 @@ returns-in_err-step c =
     let g = c.args.self.now in
     let free : Offset → Bool = λ by. free_at (free_in g.places) (neighbour_of g.width g.height c.args.from by) in
     record {
-      is = c.from-residual.ensures ∙ ap (step_way free) c.in_err-step.ensures ∙ by-steps g c.args.from c.args.to;
+      is = c.from_residual.ensures ∙ ap (step_way free) c.in_err-step.ensures ∙ by-steps g c.args.from c.args.to;
       fair = chart_fair g.width g.height;
     }
 

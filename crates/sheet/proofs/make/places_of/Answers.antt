@@ -11,7 +11,7 @@ use Rattle.sheet.proofs.make.places_of.Goals.{then-is_blocked, else-is_blocked}
 
 pub loop-place-init : goal.loop-place-init
 loop-place-init c =
-    (omega (arith, c.all-free_places.ensures.size), λ k. ap (λ f. f k) c.all-free_places.ensures.shut ∙ sym (and_left (ltb k 0) _ (le-ltb k 0 (omega arith))))
+    (omega (arith, c.all_free-places.ensures.size), λ k. ap (λ f. f k) c.all_free-places.ensures.shut ∙ sym (and_left (ltb k 0) _ (le-ltb k 0 (omega arith))))
 
 pub loop-place-preserved : goal.loop-place-preserved
 loop-place-preserved c =

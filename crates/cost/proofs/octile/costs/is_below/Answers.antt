@@ -11,6 +11,6 @@ returns c =
     let b = below-weight a.m a.n a.p a.q c.requires.0 c.requires.1 in
     let e : ltb c.weight.result c.weight-2.result ≡ below a.m a.n a.p a.q = cc in
     record {
-      by-squares = e;
-      by-root = subst (λ (r : Bool). Decides r (LessWorth a.m a.n a.p a.q)) (sym e) (less_worth a.m a.n a.p a.q c.requires.0 c.requires.1);
+      by_squares = e;
+      by_root = subst (λ (r : Bool). Decides r (LessWorth a.m a.n a.p a.q)) (sym e) (less_worth a.m a.n a.p a.q c.requires.0 c.requires.1);
     }
