@@ -20,7 +20,7 @@ returns-then-is_less g c start h e =
 
 pub loop-turn-preserved : goal.loop-turn-preserved
 loop-turn-preserved g c start h e =
-    goes_on g.S.C.Cost _ c.args.size start c.requires.inside c.loop-turn.-turn _ _ (c.loop-turn.invariant start h e)
+    goes_on g.S.C.Cost _ c.args.size start c.requires.inside c.loop-turn._turn _ _ (c.loop-turn.invariant start h e)
     c.in-Some.place c.in-Some.ensures.is c.settle.ensures.front
 
 pub returns : goal.returns

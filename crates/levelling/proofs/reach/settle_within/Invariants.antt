@@ -9,4 +9,4 @@ abbrev pub invariant-loop-turn : goal.invariant-loop-turn
 invariant-loop-turn g l =
     let k = g.S.C.Cost in
     (start : ℕ) → start < l.size → front_of k l.size l.initial.table l.initial.waiting ≡ begin (kind_of k) start →
-    Going k (g.S.Steps.step l.graph) l.size start l.-turn (front_of k l.size l.table l.waiting)
+    Going k (g.S.Steps.step l.graph) l.size start l._turn (front_of k l.size l.table l.waiting)

@@ -19,7 +19,10 @@ pub round-requires : goal.round-requires
 round-requires g c =
     let few = (g.G.Ground.laws c.args.ground.now).few in (
       book_fits _ _ g.met.G.C.Cost.narrow g.met.G.C.Cost.small,
-      (omega (arith, c.size.ensures, few), (omega (arith, c.loop-lower.auto), (omega (arith, c.number-lower-end.ensures, c.args.levels.range.1), c.loop-lower.invariant.1))),
+      (
+        (omega (arith, c.size.ensures, few), (omega (arith, c.loop-lower.auto), omega (arith, c.number-lower-end.ensures, c.args.levels.range.1))),
+        c.loop-lower.invariant.1,
+      ),
     )
 
 pub loop-lower-preserved : goal.loop-lower-preserved

@@ -22,7 +22,10 @@ pairs-init g c =
 pub needs_from-needs-requires : goal.needs_from-needs-requires
 needs_from-needs-requires g c = (
   book_fits _ _ g.met.C.Cost.narrow g.met.C.Cost.small,
-  (c.requires.sizes.0, (omega arith, (omega (arith, c.requires.sizes.1.1), (c.near-near.ensures, (sym (c.near-near.ensures c.pairs.first (omega arith)) ∙ c.if-near-first.true, c.requires.bounded))))),
+  (
+    (c.requires.sizes.0, (omega arith, omega (arith, c.requires.sizes.1.1))),
+    ((c.near-near.ensures, sym (c.near-near.ensures c.pairs.first (omega arith)) ∙ c.if-near-first.true), c.requires.bounded),
+  ),
 )
 
 pub loop-second-init : goal.loop-second-init

@@ -2,17 +2,14 @@ use Rattle.std.proofs.Common.{false, None, refl, arith}
 use Rattle.hierarchy.specs.Kinds.{kind_of}
 use Rattle.hierarchy.specs.Lands.{Land}
 use Rattle.levelling.specs.Meaning.{meaning}
+use Rattle.levelling.proofs.FitsNeeded.{needed_fits}
 use Rattle.levelling.proofs.Fits.{book_fits}
 use Rattle.levelling.specs.Listed.{listed}
-use Rattle.levelling.proofs.FitsNeeded.{needed_fits}
 use Rattle.levelling.proofs.Visiting.{few_in, middles, fitting, sunk}
 use Rattle.levelling.proofs.visit.visit.Goals as goal
 
 pub needed_shortcuts-requires : goal.needed_shortcuts-requires
-needed_shortcuts-requires g c = (
-  book_fits _ _ g.met.C.Cost.narrow g.met.C.Cost.small,
-  (needed_fits _ _ g.met.C.Cost.narrow g.met.C.Cost.small, (c.requires.sizes.0, (c.requires.sizes.1.0, (c.requires.sizes.1.1, c.requires.bounded)))),
-)
+needed_shortcuts-requires g c = (book_fits _ _ g.met.C.Cost.narrow g.met.C.Cost.small, (needed_fits _ _ g.met.C.Cost.narrow g.met.C.Cost.small, (c.requires.sizes, c.requires.bounded)))
 
 pub append_to-requires : goal.append_to-requires
 append_to-requires g c =

@@ -10,7 +10,7 @@ loop-step-preserved g c =
     let inv = c.loop-step.invariant in
     let back : first - 1 + 1 ≡ first = omega arith in
     let room : length places ≡ 257 = inv.2 in (
-      step_back g.C.Cost c.args.table.now c.args.start places _ first (omega arith) (c.args.size - c.loop-step.-step) _ (omega arith)
+      step_back g.C.Cost c.args.table.now c.args.start places _ first (omega arith) (c.args.size - c.loop-step._step) _ (omega arith)
           c.if-place-start.false inv.0 (first - 1) _ back c.predecessor.ensures,
       omega arith,
       simp length-set room,
@@ -19,7 +19,7 @@ loop-step-preserved g c =
 pub returns-then-place-start : goal.returns-then-place-start
 returns-then-place-start g c =
     let inv = c.loop-step.invariant in
-    let left = c.args.size - c.loop-step.-step in
+    let left = c.args.size - c.loop-step._step in
     let more : left ≡ suc (left - 1) = omega arith in
     record {
       places = start-reached g.C.Cost c.args.table.now c.args.start _ _ c.loop-step.chain.first (omega arith) left (left - 1) more c.if-place-start.true inv.0;

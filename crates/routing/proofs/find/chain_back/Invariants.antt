@@ -7,5 +7,5 @@ invariant-loop-step g l =
     let back = chain_in g.C.Cost l.table l.start in
     let places = l.chain.places in
     let first = l.chain.first in
-    (back (l.size - l.-step) (get_or places first 0) ++ drop (first + 1) places ≡ back l.size l.goal)
-    × (first + l.-step ≡ 256) × (length places ≡ 257)
+    (back (l.size - l._step) (get_or places first 0) ++ drop (first + 1) places ≡ back l.size l.goal)
+    × (first + l._step ≡ 256) × (length places ≡ 257)

@@ -22,7 +22,7 @@ returns-then-table-goal g c =
     let inv = c.loop-turn.invariant in
     let settled = settled_read k n b t w c.index-table-goal.result true (omega arith) (omega arith) c.if-table-goal.true in
     record {
-      front = goal_settled {K = kind_of k} (g.S.Steps.step c.args.graph.now) n b c.loop-turn.-turn (front_of k n t w) _ (omega arith) inv.0 settled;
+      front = goal_settled {K = kind_of k} (g.S.Steps.step c.args.graph.now) n b c.loop-turn._turn (front_of k n t w) _ (omega arith) inv.0 settled;
       rest = inv.1;
     }
 
@@ -36,7 +36,7 @@ returns-in_default g c =
     let inv = c.loop-turn.invariant in
     let unsettled = settled_read k n b t w c.index-table-goal.result false (omega arith) (omega arith) c.if-table-goal.false in
     record {
-      front = none_waits {K = kind_of k} (g.S.Steps.step c.args.graph.now) n b c.loop-turn.-turn (front_of k n t w) _ (omega arith) inv.0 unsettled c.in_default.ensures.is;
+      front = none_waits {K = kind_of k} (g.S.Steps.step c.args.graph.now) n b c.loop-turn._turn (front_of k n t w) _ (omega arith) inv.0 unsettled c.in_default.ensures.is;
       rest = inv.1;
     }
 
@@ -49,7 +49,7 @@ loop-turn-preserved g c =
     let w = c.loop-turn.waiting in
     let inv = c.loop-turn.invariant in
     let unsettled = settled_read k n b t w c.index-table-goal.result false (omega arith) (omega arith) c.if-table-goal.false in (
-      turn_more {K = kind_of k} (g.S.Steps.step c.args.graph.now) n b c.loop-turn.-turn (front_of k n t w) _ (omega arith) inv.0 unsettled
+      turn_more {K = kind_of k} (g.S.Steps.step c.args.graph.now) n b c.loop-turn._turn (front_of k n t w) _ (omega arith) inv.0 unsettled
           c.in-Some.place c.in-Some.ensures.is _ c.settle.ensures.front,
       c.settle.ensures.rest ∙ inv.1,
     )
@@ -59,7 +59,7 @@ returns g c =
     let k = g.S.C.Cost in
     let n = c.args.size in
     let front = front_of k n c.loop-turn.table c.loop-turn.waiting in
-    let over : 0 ≡ n - c.loop-turn.-turn = omega arith in
+    let over : 0 ≡ n - c.loop-turn._turn = omega arith in
     let inv = c.loop-turn.invariant in
     record {
       front = ap (λ m. search_on {K = kind_of k} (g.S.Steps.step c.args.graph.now) n c.args.goal m front) over ∙ inv.0;

@@ -9,5 +9,5 @@ invariant-loop-turn g l =
     let k = g.S.C.Cost in
     let n = l.size in
     let on = search_on {K = kind_of k} (g.S.Steps.step l.graph) n l.goal in
-    (on (n - l.-turn) (front_of k n l.table l.waiting) ≡ on n (front_of k n l.initial.table l.initial.waiting))
+    (on (n - l._turn) (front_of k n l.table l.waiting) ≡ on n (front_of k n l.initial.table l.initial.waiting))
     × (drop n l.table ≡ drop n l.initial.table)

@@ -6,16 +6,17 @@ use Rattle.levelling.proofs.Appending.{counts, last_written, as_many, keeps_ways
 use Rattle.levelling.proofs.Writing.{alike}
 use Rattle.levelling.proofs.book.Book.append.Goals as goal
 
-pub invariant-of-self : goal.invariant-of-self
-invariant-of-self g c =
+pub invariant_of-self : goal.invariant_of-self
+invariant_of-self g c =
     let book = c.args.self.now in
     let s = c.args.shortcut in
     let room = c.if-self-ge2048.false in
     let there = c.enter.ensures in
-    let back = c.enter-2.ensures in (
-      (book.sizes.0, as_many book s room there back, length-set book.shortcuts book.count s ∙ book.sizes.2),
-      (omega arith, (still_indexed book s room there back, tt)),
-    )
+    let back = c.enter-2.ensures in record {
+      sizes = (book.sizes.0, as_many book s room there back, length-set book.shortcuts book.count s ∙ book.sizes.2);
+      room = omega arith;
+      indexed = still_indexed book s room there back;
+    }
 
 pub returns : goal.returns
 returns g c =

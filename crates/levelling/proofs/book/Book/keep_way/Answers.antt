@@ -7,12 +7,16 @@ use Rattle.levelling.specs.declared.entry.Entry.TheVariants.{Way}
 use Rattle.levelling.proofs.Writing.{alike, set_keeps, set_indexed}
 use Rattle.levelling.proofs.book.Book.keep_way.Goals as goal
 
-pub invariant-of-self : goal.invariant-of-self
-invariant-of-self g c =
+pub invariant_of-self : goal.invariant_of-self
+invariant_of-self g c =
     let book = c.args.self.now in
     let indexed = set_indexed book.entries (take book.count book.shortcuts) c.args.from c.args.to (Way c.args.cost)
     book.sizes.1 c.if-from-lt256.true c.if-to-lt256.true (λ n e. refl) book.indexed in
-    ((book.sizes.0, length-set book.entries (c.args.from * 256 + c.args.to) _ ∙ book.sizes.1, book.sizes.2), (book.room, (indexed, tt)))
+    record {
+      sizes = (book.sizes.0, length-set book.entries (c.args.from * 256 + c.args.to) _ ∙ book.sizes.1, book.sizes.2);
+      room = book.room;
+      indexed = indexed;
+    }
 
 pub returns-then-to-lt256 : goal.returns-then-to-lt256
 returns-then-to-lt256 g c =

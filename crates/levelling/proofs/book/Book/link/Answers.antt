@@ -19,8 +19,8 @@ returns-in-Apart g c =
     sym (link_is c.args.self.now c.args.from c.args.to _ _ c.in-Apart.is (omega arith) (omega arith) g.C.Cost
     (min c.args.size 256) (omega arith) (omega arith) c.if-from-to.false)
 
-pub offset-bounds-self-number : goal.offset-bounds-self-number
-offset-bounds-self-number g c =
+pub offset_bounds-self-number : goal.offset_bounds-self-number
+offset_bounds-self-number g c =
     omega (arith, number_below c.args.self.now c.args.from c.args.to _ _ c.in-Shortcut.is (omega arith) (omega arith) c.in-Shortcut.number refl)
 
 pub listed-in-Shortcut : goal.listed-in-Shortcut
