@@ -68,6 +68,8 @@ def collect():
                 name = m[1]
                 if re.search(r":\s*goal\.", line):
                     made.add(name)
+                elif "-" not in name and name[0].isupper() and "_" in name:
+                    kinds[name].add("fact")
                 elif "-" not in name:
                     if re.match(r"\s*(unfoldable|abbrev)\b|  pub \w+ : ", line) and "/specs/" in p:
                         plain.add(name)
@@ -110,7 +112,7 @@ def sources():
 
 
 def camel(name):
-    return "".join(w[:1].upper() + w[1:] for w in name.split("-"))
+    return "".join(w[:1].upper() + w[1:] for w in re.split("[-_]", name))
 
 
 def snake(name):

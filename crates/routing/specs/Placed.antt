@@ -1,7 +1,7 @@
 -- The places of a route as they are written.
 --   places_of  the places written so far
 --   Appended   more places are written, or there would be more than 256 in all
---   Laid_out   the places of the whole are written, or there are more than 256
+--   LaidOut   the places of the whole are written, or there are more than 256
 --   Near       every place is below 256
 use Rattle.std.specs.Prelude.{◌≡◌, ℕ, ◌<◌, Bool, true, false, List, ◌++◌, length, take, Some, None, Option, slice_index}
 use Rattle.routing.specs.declared.laid.Laid.{Laid}
@@ -13,9 +13,9 @@ abbrev pub Appended : Bool → List ℕ → List ℕ → List ℕ → Type 0
 Appended true old more new = new ≡ old ++ more
 Appended false old more new = 256 < length (old ++ more)
 
-abbrev pub Laid_out : Option Laid → List ℕ → Type 0
-Laid_out (Some l) whole = places_of l ≡ whole
-Laid_out None whole = 256 < length whole
+abbrev pub LaidOut : Option Laid → List ℕ → Type 0
+LaidOut (Some l) whole = places_of l ≡ whole
+LaidOut None whole = 256 < length whole
 
 abbrev pub Near : List ℕ → Type 0
 Near chain = (k : ℕ) → k < length chain → slice_index chain k < 256

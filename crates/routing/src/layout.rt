@@ -3,7 +3,7 @@ ghost use Rattle.std.specs.Prelude.{◌<◌};
 ghost use Rattle.hierarchy.specs.Layouts.{lay_by, laid as laid_over};
 ghost use Rattle.levelling.specs.Halves.{MiddlesNear};
 ghost use Rattle.levelling.specs.Meaning.{meaning};
-ghost use Rattle.routing.specs.Placed.{places_of, Appended, Laid_out, Near};
+ghost use Rattle.routing.specs.Placed.{places_of, Appended, LaidOut, Near};
 
 use crate::laid::Laid;
 use cost::Cost;
@@ -13,7 +13,7 @@ use levelling::Book;
 pub fn lay_out<C: Cost>(book: &Book<C>, chain: &[usize]) -> Option<Laid>
     requires near { Near chain.now }
     requires middles { MiddlesNear (meaning C.Cost book.now).shortcuts }
-    ensures { Laid_out result (laid_over (meaning C.Cost book.now) chain.now) }
+    ensures { LaidOut result (laid_over (meaning C.Cost book.now) chain.now) }
 {
     let mut laid = Laid::none();
     if lay_chain(book, &mut laid, chain) {

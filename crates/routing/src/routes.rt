@@ -9,7 +9,7 @@ ghost use Rattle.hierarchy.specs.Layouts.{laid as laid_over};
 ghost use Rattle.levelling.specs.Halves.{MiddlesNear};
 ghost use Rattle.levelling.specs.Meaning.{meaning};
 ghost use Rattle.routing.specs.Found.{chain_in};
-ghost use Rattle.routing.specs.Placed.{places_of, Laid_out, Near};
+ghost use Rattle.routing.specs.Placed.{places_of, LaidOut, Near};
 ghost use Rattle.routing.specs.Routes.{routed, Handed};
 
 use crate::find::{chain_back, find};
@@ -101,7 +101,7 @@ fn lay_found<C: Cost>(
 ) -> Option<Laid>
     requires near { (size ≤ 256) × (Near (chain_in C.Cost table.now from size to)) }
     requires middles { MiddlesNear (meaning C.Cost book.now).shortcuts }
-    ensures { Laid_out result (laid_over (meaning C.Cost book.now) (chain_in C.Cost table.now from size to)) }
+    ensures { LaidOut result (laid_over (meaning C.Cost book.now) (chain_in C.Cost table.now from size to)) }
 {
     let chain = chain_back(table, size, from, to);
     lay_out(book, &chain.places[chain.first..])

@@ -9,7 +9,7 @@ pub search_route-requires : goal.search_route-requires
 search_route-requires g c =
     let asked = c.in-Ok.ensures.asked in
     let few = (g.G.Ground.laws c.args.ground.now).few in
-    (book_fits _ _ g.met.G.C.Cost.narrow g.met.G.C.Cost.small, (omega (arith, c.size.ensures), (omega (arith, c.size.ensures, asked.2), (omega (arith, c.size.ensures, asked.0), omega (arith, c.size.ensures, asked.1)))))
+    (book_fits _ _ g.met.G.C.Cost.narrow g.met.G.C.Cost.small, ((omega (arith, c.size.ensures), omega (arith, c.size.ensures, asked.2)), ((omega (arith, c.size.ensures, asked.0), omega (arith, c.size.ensures, asked.1)), c.requires.middles)))
 
 pub returns-in-Err : goal.returns-in-Err
 returns-in-Err g c =

@@ -20,9 +20,12 @@ pub lay_found-requires : goal.lay_found-requires
 lay_found-requires g c = (
   book_fits _ _ g.met.C.Cost.narrow g.met.C.Cost.small,
   (
-    c.requires.rows.0,
-    near g.C.Cost (meaning g.C.Cost c.args.book.now) c.args.top c.args.from c.args.to c.args.size _ c.relevant_links-links.ensures
-        c.requires.rows.0 c.requires.ends.0 c.requires.ends.1 _ _ c.find.ensures.table (sym c.find.ensures.found ∙ c.if-not-find.false),
+    (
+      c.requires.rows.0,
+      near g.C.Cost (meaning g.C.Cost c.args.book.now) c.args.top c.args.from c.args.to c.args.size _ c.relevant_links-links.ensures
+          c.requires.rows.0 c.requires.ends.0 c.requires.ends.1 _ _ c.find.ensures.table (sym c.find.ensures.found ∙ c.if-not-find.false),
+    ),
+    c.requires.middles,
   ),
 )
 
