@@ -1,3 +1,5 @@
+pub mod Phases
+pub mod Needed
 pub mod Sampling
 pub mod SearchCounts
 pub mod SearchNearest

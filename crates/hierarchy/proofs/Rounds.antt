@@ -2,7 +2,7 @@
 use Rattle.std.proofs.Common.{◌≡◌, ℕ, zero, suc, ◌+◌, ◌-◌, ◌<◌, ◌≤◌, Bool, true, false, cond, eqb, ◌≢◌, ◌⊎◌, List, [], ◌∷◌, subst, inl, inr, ⊎_elim, arith}
 use Rattle.std.proofs.lemmas.Bool.{cases_eq, eq-eqb, ne_eqb, eqb-true, cond-true, cond-false, cond_both}
 use Rattle.hierarchy.specs.Kinds.{Kind}
-use Rattle.hierarchy.specs.Walks.{end, along}
+use Rattle.hierarchy.specs.Walks.{along}
 use Rattle.hierarchy.specs.Shortest.{below}
 use Rattle.hierarchy.specs.Lands.{Land}
 use Rattle.hierarchy.specs.Books.{Book, link}

@@ -1,5 +1,5 @@
 -- Shown: what holds of a search at its start, and still holds when the nearest place is settled.
-use Rattle.std.proofs.Common.{◌≡◌, ℕ, zero, suc, ◌<◌, Bool, true, false, cond, not, eqb, is_some, Some, None, Option, sym, refl, ap, ◌∙◌, subst, ⊎_elim, arith}
+use Rattle.std.proofs.Common.{◌≡◌, ℕ, suc, ◌<◌, Bool, true, false, cond, not, eqb, is_some, Some, None, Option, sym, refl, ap, ◌∙◌, subst, ⊎_elim, arith}
 use Rattle.std.proofs.lemmas.Bool.{true≢false, both_ways, not-false, eqb-true, eq-eqb, ne_eqb, and_parts, and_cases, and_left, or_cases, or_parts, or_left, or_right, not_from_true, cond-true, cond-false, cond_both}
 use Rattle.hierarchy.specs.Kinds.{Kind, Price, add}
 use Rattle.hierarchy.specs.Deciders.{add_some}

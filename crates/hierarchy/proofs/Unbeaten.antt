@@ -1,12 +1,12 @@
 -- Shown: the ways that no walk beats cost the distance, are alike from either end, and make a chain as cheap as any walk.
 --   Unbeaten  `kept` holds the ways that no walk beats, and no others
-use Rattle.std.proofs.Common.{◌≡◌, ℕ, zero, suc, ◌+◌, ◌<◌, ◌≤◌, Bool, true, false, cond, not, ◌&&◌, eqb, ◌≢◌, ◌⊎◌, List, [], ◌∷◌, ◌++◌, Some, None, sym, refl, ap, ◌∙◌, subst, inl, inr, ⊎_elim, arith, eqb→eq}
+use Rattle.std.proofs.Common.{◌≡◌, ℕ, zero, suc, ◌+◌, ◌<◌, ◌≤◌, Bool, true, false, cond, ◌&&◌, eqb, ◌≢◌, ◌⊎◌, List, [], ◌∷◌, ◌++◌, Some, None, sym, refl, ap, ◌∙◌, subst, inl, inr, ⊎_elim, arith, eqb→eq}
 use Rattle.std.proofs.lemmas.Bool.{true≢false, cases_Bool, and_parts, ltb-true, cond-true, cond-false}
 use Rattle.hierarchy.specs.Kinds.{Price, add, cheaper}
 use Rattle.hierarchy.specs.Walks.{end, along, SetAside}
 use Rattle.hierarchy.specs.Scales.{scale, scale_laws, T_false, false-T}
 use Rattle.hierarchy.specs.Shortest.{In, first, later, below, in_below, end-append, zero_r, memo2_is}
-use Rattle.hierarchy.specs.Lands.{on, ways}
+use Rattle.hierarchy.specs.Lands.{on}
 use Rattle.hierarchy.specs.Deciders.{decided, set_aside?}
 use Rattle.hierarchy.specs.Levels.{pairs, start}
 use Rattle.hierarchy.proofs.Lists.{in_pairs}

@@ -11,12 +11,11 @@ use Rattle.hierarchy.specs.Scales.{scale, scale_laws}
 use Rattle.hierarchy.specs.Shortest.{In, below, in_below, in_right, in_map, zero_r}
 use Rattle.hierarchy.specs.Books.{Book, joins, link}
 use Rattle.hierarchy.specs.Chains.{Without, Round}
-use Rattle.hierarchy.specs.Deciders.{decided, decided-true}
-use Rattle.hierarchy.specs.Decided.{none?}
 use Rattle.hierarchy.specs.Linked.{inside_link}
-use Rattle.hierarchy.specs.Phases.{round?}
-use Rattle.hierarchy.specs.Levels.{select, every, pairs, put, by_way_of, Needs, needs?, near, needed, shortcut_over, visit}
-use Rattle.hierarchy.proofs.Lists.{Pairwise, Before, filter-select, in_select, all_select, pairwise_select, all_below, rising-below, in_pairs, all_pairs, pairs_rise, every_all, all_nth, nth-map, take-map, nth-append, pairwise_nth}
+use Rattle.hierarchy.specs.Levels.{select, every, pairs, put, by_way_of, Needs, is_needed, near, needed, shortcut_over, visit}
+use Rattle.hierarchy.proofs.Phases.{round?}
+use Rattle.hierarchy.proofs.Needed.{needed_needs, need_is_tested}
+use Rattle.hierarchy.proofs.Lists.{Pairwise, Before, in_select, all_select, pairwise_select, all_below, rising-below, in_pairs, all_pairs, pairs_rise, every_all, all_nth, nth-map, take-map, nth-append, pairwise_nth}
 use Rattle.hierarchy.proofs.Prices.{Has, some_has, has_some, has_or_none, add_has, Le, le_trans, le_anti, le-zero, same_le, le-kept, le_has, at_most, at_most-le, along_less}
 use Rattle.hierarchy.proofs.Shape.{Local, arching_local, local_arching}
 use Rattle.hierarchy.proofs.Turned.{turned, end_turned, along_turned, local_turned, without_turned}
@@ -108,21 +107,17 @@ module _ (R : Region) (rule : ℕ → ℕ → Bool) (i : ℕ) (book : Book R.K) 
   nigh_rises = pairwise_select test ◌<◌ (below R.land.size) (rising-below R.land.size)
 
   abbrev wants : ℕ × ℕ → Bool
-  wants p = decided (needs? R.land i book v p)
-
-  new_is : new ≡ select wants (pairs nigh)
-  new_is = filter-select (needs? R.land i book v) (pairs nigh)
+  wants = is_needed R.land i book v
 
   all_new : All Wanted new
   all_new =
-      subst (All Wanted) (sym new_is)
-      (All-weaker (λ p. (Has (w p.0 v) × Has (w p.1 v) × (p.0 < p.1)) × (wants p ≡ true)) Wanted
-      (λ p h. record { beside = record { one = h.0.0; other = subst Has (w_sym p.1 v) h.0.1 }; rises = h.0.2; needs = decided-true (needs? R.land i book v p) h.1 })
+      All-weaker (λ p. (Has (w p.0 v) × Has (w p.1 v) × (p.0 < p.1)) × (wants p ≡ true)) Wanted
+      (λ p h. record { beside = record { one = h.0.0; other = subst Has (w_sym p.1 v) h.0.1 }; rises = h.0.2; needs = needed_needs R.land i book v p h.1 })
       (select wants (pairs nigh))
-      (all_select wants (λ p. Has (w p.0 v) × Has (w p.1 v) × (p.0 < p.1)) (pairs nigh) (all_pairs (λ a. Has (w a v)) ◌<◌ nigh all_nigh nigh_rises)))
+      (all_select wants (λ p. Has (w p.0 v) × Has (w p.1 v) × (p.0 < p.1)) (pairs nigh) (all_pairs (λ a. Has (w a v)) ◌<◌ nigh all_nigh nigh_rises))
 
   new_rises : Pairwise Before new
-  new_rises = subst (Pairwise Before) (sym new_is) (pairwise_select wants Before (pairs nigh) (pairs_rise nigh nigh_rises))
+  new_rises = pairwise_select wants Before (pairs nigh) (pairs_rise nigh nigh_rises)
 
   on_land : (a : ℕ) → Has (w a v) → a < R.land.size
   on_land a h = (link_ends R.land book.kept cs a v h).0
@@ -210,12 +205,12 @@ module _ (R : Region) (rule : ℕ → ℕ → Bool) (i : ℕ) (book : Book R.K) 
 
     straight : (a z : ℕ) → Beside a z → a ≢ z → In (a, z) (pairs nigh) → Stand a z
     straight a z n d j =
-        ⊎_elim (λ e. by_shortcut a z n d (subst (In (a, z)) (sym new_is) (in_select wants (pairs nigh) (a, z) j e))) (by_chain a z)
+        ⊎_elim (λ e. by_shortcut a z n d (in_select wants (pairs nigh) (a, z) j e)) (by_chain a z)
         (go (round? R.K w book.level (i + 1) v R.land.size (inside_link R.land book) a z (by_v a z)))
       where
-        go : (d : Dec (Round R.K w book.level (i + 1) v a z (by_v a z))) → (decided (none? d) ≡ true) ⊎ Round R.K w book.level (i + 1) v a z (by_v a z)
+        go : (d : Dec (Round R.K w book.level (i + 1) v a z (by_v a z))) → (wants (a, z) ≡ true) ⊎ Round R.K w book.level (i + 1) v a z (by_v a z)
         go (yes r) = inr r
-        go (no r) = inl refl
+        go (no r) = inl ((need_is_tested R.land i book v (a, z)).1 r)
 
     back_again : (a z : ℕ) → z ≢ v → Stand z a → Stand a z
     back_again a z nz (m, e, ar, wo, c) = (

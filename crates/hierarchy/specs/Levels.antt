@@ -1,5 +1,6 @@
 -- Levelling.
 --   Needs       the pair needs a shortcut over v
+--   is_needed   whether it does
 --   near        the places linked to v of level i or i + 1
 --   pairs       the pairs of different places of a list, in rising order of the first, then of the second
 --   needed      those that need a shortcut over v
@@ -8,8 +9,7 @@
 --   visit       what becomes of the book when v is visited
 --   round       every place of level i is raised, and each of level i + 1 is visited once
 --   levelling   the book of N levels
-use Rattle.std.specs.Prelude.{ℕ, zero, suc, ◌+◌, ◌-◌, Bool, true, cond, ◌&&◌, ◌||◌, List, [], ◌∷◌, ◌++◌, map, length, is_some, None, ◌==◌, nat_eq, nat_le}
-use mathlib.Core.List.{filter}
+use Rattle.std.specs.Prelude.{ℕ, zero, suc, ◌+◌, ◌-◌, Bool, true, cond, ◌&&◌, ◌||◌, List, [], ◌∷◌, ◌++◌, map, length, is_some, None, not, ◌==◌, nat_eq, nat_le}
 use Rattle.std.specs.Option.{unwrap_or}
 use Rattle.hierarchy.specs.declared.Shortcut.{Shortcut}
 use Rattle.hierarchy.specs.Kinds.{Kind, Price, add}
@@ -17,10 +17,8 @@ use Rattle.hierarchy.specs.Lands.{Land, ways}
 use Rattle.hierarchy.specs.Chains.{Round}
 use Rattle.hierarchy.specs.Books.{Book, link}
 use Rattle.hierarchy.specs.Shortest.{below, memo2}
-use Rattle.hierarchy.specs.Deciders.{decided, set_aside?}
-use Rattle.hierarchy.specs.Decided.{none?}
-use Rattle.hierarchy.specs.Linked.{inside_link}
-use Rattle.hierarchy.specs.Phases.{round?}
+use Rattle.hierarchy.specs.Deciders.{decided, cheapest, set_aside?}
+use Rattle.hierarchy.specs.Phases.{same_spot, spots, layered, some_within}
 
 abbrev pub select : {A : Type 0} → (A → Bool) → List A → List A
 select p [] = []
@@ -48,16 +46,16 @@ module _ {K : Kind} (land : Land K) where
   abbrev pub Needs : ℕ → Book K → ℕ → ℕ × ℕ → Type 0
   Needs i book v p = ¬ (Round K (link land book) book.level (i + 1) v p.0 p.1 (by_way_of book v p.0 p.1))
 
-  abbrev pub needs? : (i : ℕ) (book : Book K) (v : ℕ) (p : ℕ × ℕ) → Dec (Needs i book v p)
-  needs? i book v =
-      let r = round? K (link land book) book.level (i + 1) v land.size (inside_link land book) in
-      λ p. none? (r p.0 p.1 (by_way_of book v p.0 p.1))
+  abbrev pub is_needed : ℕ → Book K → ℕ → ℕ × ℕ → Bool
+  is_needed i book v =
+      let d = cheapest K same_spot (layered K (link land book) book.level (i + 1) v) (spots land.size) in
+      λ p. not (some_within K p.0 p.1 (by_way_of book v p.0 p.1) d)
 
   abbrev pub near : ℕ → Book K → ℕ → List ℕ
   near i book v = select (λ a. is_some (link land book a v) && (book.level a == i || book.level a == i + 1)) (below land.size)
 
   abbrev pub needed : ℕ → Book K → ℕ → List (ℕ × ℕ)
-  needed i book v = filter (needs? i book v) (pairs (near i book v))
+  needed i book v = select (is_needed i book v) (pairs (near i book v))
 
   -- both links are there for a pair that is near, so that there is a sum
   abbrev pub shortcut_over : Book K → ℕ → ℕ × ℕ → Shortcut K.C

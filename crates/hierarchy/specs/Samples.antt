@@ -20,7 +20,6 @@ use Rattle.sheet.specs.Sheets.{sheet_chart, sheet_shut, sheet_size, sheet_width,
 use Rattle.rule.specs.Rules.{no_pair, same_valley}
 use Rattle.hierarchy.specs.declared.Answer.{Answer}
 use Rattle.hierarchy.specs.declared.Answer.TheVariants.{Done, Refused, NotTaken, Routed, LevelIs, ShortcutIs}
-use Rattle.hierarchy.specs.declared.Shortcut.{Shortcut}
 use Rattle.hierarchy.specs.declared.SearchRecord.{SearchRecord}
 use Rattle.hierarchy.specs.Kinds.{Kind}
 use Rattle.hierarchy.specs.Lands.{Land, Terrain, land_at}
@@ -29,7 +28,7 @@ use Rattle.hierarchy.specs.Books.{Book}
 use Rattle.hierarchy.specs.Levels.{levelling}
 use Rattle.hierarchy.specs.Searches.{search, tally}
 use Rattle.hierarchy.specs.Layouts.{route}
-use Rattle.hierarchy.specs.Seasons.{Call, choose, shut, clear, level, reopen, route as route_call, level_of, shortcut, Post, Effect, effect, new_draft, after_calls}
+use Rattle.hierarchy.specs.Seasons.{Call, choose, shut, clear, level, reopen, route as route_call, level_of, shortcut, Post, effect, new_draft, after_calls}
 
 abbrev pub seconds_kind : Kind
 seconds_kind = record { C = Seconds; zero = zero_s; over = over_s; plus = plus_s; less = less_s; fair = way_s; word = word_s; unword = unword_s; laws = laws_s }

@@ -1,6 +1,6 @@
 -- Shown: the dearer of two prices is at least either.
-use Rattle.std.proofs.Common.{◌≡◌, Bool, true, false, cond, not, ◌||◌, is_some, Some, None, Option, sym, refl, ap, ⊎_elim}
-use Rattle.std.proofs.lemmas.Bool.{true≢false, cases_Bool, not-true, not_from_false, not-false}
+use Rattle.std.proofs.Common.{◌≡◌, Bool, true, false, cond, is_some, Some, None, Option, sym, refl}
+use Rattle.std.proofs.lemmas.Bool.{true≢false, not-true, not_from_false, not-false}
 use Rattle.cost.specs.declared.Cost.{Ghosts as Costs}
 use Rattle.hierarchy.specs.Kinds.{kind_of}
 use Rattle.hierarchy.specs.Scales.{le_trans_c}

@@ -1,10 +1,10 @@
 -- Shown: the marks that are left when links and detours have been looked at are those of the neighbours that need a shortcut.
-use Rattle.std.proofs.Common.{◌≡◌, ℕ, ◌+◌, ◌<◌, ◌≤◌, Bool, true, false, cond, not, ◌&&◌, ◌||◌, eqb, ltb, ◌≢◌, ◌⊎◌, List, [], ◌∷◌, get_or, is_some, Some, None, Decides, Option, sym, refl, ap, ◌∙◌, subst, inl, inr, ⊎_elim, arith}
-use Rattle.std.proofs.lemmas.Bool.{true≢false, both_ways, cases_Bool, and_parts, and_from, or_cases, not-true, not-false, not_from_true, not_from_false, ltb-true, lt-ltb, eqb-true, eqb-false}
+use Rattle.std.proofs.Common.{◌≡◌, ℕ, ◌+◌, ◌<◌, ◌≤◌, Bool, true, false, eqb, ltb, ◌≢◌, ◌⊎◌, List, [], ◌∷◌, get_or, is_some, Some, None, Option, sym, refl, ap, ◌∙◌, subst, inl, inr, ⊎_elim, arith}
+use Rattle.std.proofs.lemmas.Bool.{true≢false, both_ways, cases_Bool, and_parts, and_from, or_cases, not-true, not_from_false, ltb-true, lt-ltb, eqb-true}
 use Rattle.cost.specs.declared.Cost.{Ghosts as Costs}
 use Rattle.hierarchy.specs.declared.SearchRecord.{SearchRecord}
-use Rattle.hierarchy.specs.Kinds.{kind_of, add}
-use Rattle.hierarchy.specs.Scales.{scale, scale_laws, le_trans_c}
+use Rattle.hierarchy.specs.Kinds.{kind_of}
+use Rattle.hierarchy.specs.Scales.{scale, scale_laws}
 use Rattle.hierarchy.specs.Shortest.{zero_r}
 use Rattle.hierarchy.specs.Walks.{Walk}
 use Rattle.hierarchy.specs.Chains.{AtMost}

@@ -1,6 +1,6 @@
 -- Shown: a search that goes on to a bound tells of each place what it should.
 --   Going  after some turns a search is sound, and has settled as many places
-use Rattle.std.proofs.Common.{◌≡◌, ℕ, zero, suc, ◌+◌, ◌<◌, ◌≤◌, Bool, true, false, cond, ◌&&◌, ◌||◌, ltb, List, get_or, is_some, Some, None, Option, sym, refl, ap, ◌∙◌, subst, ⊎_elim, arith}
+use Rattle.std.proofs.Common.{◌≡◌, ℕ, zero, suc, ◌+◌, ◌<◌, ◌≤◌, Bool, true, false, ◌&&◌, ◌||◌, ltb, List, get_or, is_some, Some, None, Option, sym, refl, ap, ◌∙◌, subst, ⊎_elim, arith}
 use Rattle.std.proofs.lemmas.Bool.{true≢false, both_ways, cases_Bool, cases_lt, lt-ltb, or_left, or_right, and_from, cond-true}
 use Rattle.cost.specs.declared.Cost.{Ghosts as Costs}
 use Rattle.ground.specs.Counts.{count}
@@ -14,7 +14,7 @@ use Rattle.hierarchy.proofs.SearchNearest.{nearest_at}
 use Rattle.hierarchy.proofs.SearchSteps.{Inside as LeadsInside, Sound, begin_sound, settle_sound, one_more}
 use Rattle.hierarchy.proofs.SearchWalks.{settled-least, unsettled_unreached, bounded}
 use Rattle.frontier.specs.Fronts.{blank, front_of, Inside, Waiting}
-use Rattle.levelling.specs.Reach.{Told, ReachedWithin}
+use Rattle.levelling.specs.Reach.{ReachedWithin}
 
 module _ {C : Type 0} (k : Costs C) (step : ℕ → ℕ → Option C) (n a : ℕ) where
   leads_inside : Inside n step → LeadsInside (kind_of k) step n

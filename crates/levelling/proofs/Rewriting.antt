@@ -1,12 +1,12 @@
 -- Shown: what is kept once the ways of a row are rewritten one by one, and of all rows.
-use Rattle.std.proofs.Common.{◌≡◌, ℕ, ◌+◌, ◌<◌, ◌≤◌, Bool, true, false, cond, ◌&&◌, eqb, ltb, Option, sym, refl, ap, ◌∙◌, inl, inr, arith}
+use Rattle.std.proofs.Common.{◌≡◌, ℕ, ◌+◌, cond, ◌&&◌, eqb, ltb, Option, sym, refl, ap, ◌∙◌, inl, inr, arith}
 use mathlib.Core.Path.{fun_ext}
-use Rattle.std.proofs.lemmas.Bool.{cases_lt, lt-ltb, le-ltb, and_left, and_right, and_from, cond-true, cond-false}
+use Rattle.std.proofs.lemmas.Bool.{cases_lt, lt-ltb, le-ltb, and_left, and_right, cond-false}
 use Rattle.std.proofs.lemmas.Bool.Decides.{eqb_tells}
 use Rattle.hierarchy.specs.Kinds.{Kind, Price}
 use Rattle.hierarchy.specs.Books.{Book}
 use Rattle.levelling.specs.Meaning.{put_price}
-use Rattle.levelling.specs.Begun.{Rewritten, RowWritten, RowsWritten}
+use Rattle.levelling.specs.Begun.{RowWritten, RowsWritten}
 
 -- one place more, which is not this one
 pub ltb_next : (x i : ℕ) → (x ≡ i → ⊥) → ltb x (i + 1) ≡ ltb x i

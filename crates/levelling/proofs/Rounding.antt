@@ -1,15 +1,15 @@
 -- Shown: between two places just below the top or at it, an arching chain without v goes by detour steps, and a walk over these is no
 -- cheaper than some such chain.
 --   Tops  all places of a list but the last stand at the top
-use Rattle.std.proofs.Common.{◌≡◌, ℕ, suc, ◌+◌, ◌<◌, ◌≤◌, Bool, true, false, cond, not, ◌&&◌, ◌||◌, eqb, ◌≢◌, ◌⊎◌, List, [], ◌∷◌, ◌++◌, length, is_some, Some, None, Option, sym, refl, ap, ◌∙◌, subst, inl, inr, ⊎_elim, arith}
-use Rattle.std.proofs.lemmas.Bool.{true≢false, both_ways, cases_eq, cases_lt, and_parts, and_from, or_cases, or_left, or_right, eqb-true, eq-eqb, ne_eqb, not-true, not_from_false, eqb-false, cond-true}
+use Rattle.std.proofs.Common.{◌≡◌, ℕ, ◌+◌, ◌≤◌, Bool, true, false, cond, not, ◌&&◌, ◌||◌, eqb, ◌≢◌, ◌⊎◌, List, [], ◌∷◌, ◌++◌, length, is_some, Some, None, sym, refl, ap, ◌∙◌, subst, inl, inr, ⊎_elim, arith}
+use Rattle.std.proofs.lemmas.Bool.{true≢false, cases_eq, cases_lt, and_from, or_cases, or_left, or_right, eqb-true, eq-eqb, ne_eqb, not-true, not_from_false, eqb-false, cond-true}
 use Rattle.hierarchy.specs.Kinds.{Kind, Price, add}
 use Rattle.hierarchy.specs.Walks.{end, along, Walk}
 use Rattle.hierarchy.specs.Chains.{Rises, Stays, Falls, Arching, Without}
 use Rattle.hierarchy.specs.Shortest.{end-append}
 use Rattle.hierarchy.specs.Deciders.{add_some}
 use Rattle.hierarchy.proofs.Prices.{some_has, has_some, Le, le_refl, le_trans, le_more_l, le_has}
-use Rattle.hierarchy.proofs.Shape.{Fine, Joint, Peak, Local, local_arching}
+use Rattle.hierarchy.proofs.Shape.{Peak, Local, local_arching}
 use Rattle.levelling.specs.Detours.{detour_steps}
 
 module _ (level : ℕ → ℕ) (top : ℕ) where

@@ -1,5 +1,5 @@
 -- Shown: levels entered, ways entered and the beaten ones set aside make the book before the first round.
-use Rattle.std.proofs.Common.{◌≡◌, ℕ, ◌<◌, Bool, true, false, cond, not, ◌&&◌, eqb, ltb, [], Some, None, Option, sym, refl, ap, ◌∙◌, subst, inl, inr}
+use Rattle.std.proofs.Common.{◌≡◌, ℕ, Bool, true, false, cond, not, ◌&&◌, eqb, ltb, [], Some, None, Option, sym, refl, ap, ◌∙◌, subst, inl, inr}
 use mathlib.Core.Path.{fun_ext}
 use Rattle.std.proofs.lemmas.Bool.Decides.{eqb_tells}
 use Rattle.std.specs.Option.{option_map}
@@ -11,7 +11,7 @@ use Rattle.hierarchy.specs.Deciders.{set_aside?}
 use Rattle.hierarchy.specs.Books.{Book, link_among, shortcut_between}
 use Rattle.hierarchy.specs.Levels.{start}
 use Rattle.hierarchy.specs.Levelled.{Lawful}
-use Rattle.hierarchy.proofs.Distances.{Region, way}
+use Rattle.hierarchy.proofs.Distances.{Region}
 use Rattle.hierarchy.proofs.Unbeaten.{Unbeaten, start_unbeaten}
 use Rattle.levelling.specs.Begun.{LevelsEntered, RowsWritten, enters}
 use Rattle.levelling.specs.Beaten.{BeatenAside}

@@ -1,5 +1,5 @@
 -- Shown: what the pair loops come to is what is defined of a visit, on any land of that size.
-use Rattle.std.proofs.Common.{◌≡◌, ℕ, zero, suc, ◌+◌, ◌-◌, ◌<◌, ◌≤◌, Bool, true, false, cond, ◌&&◌, ltb, List, [], ◌∷◌, ◌++◌, map, length, get_or, is_some, Some, Decides, sym, refl, ap, ◌∙◌, subst, ⊎_elim, arith}
+use Rattle.std.proofs.Common.{◌≡◌, ℕ, zero, suc, ◌+◌, ◌-◌, ◌<◌, ◌≤◌, Bool, true, false, ◌&&◌, ltb, List, [], ◌∷◌, ◌++◌, map, length, get_or, is_some, Some, sym, refl, ap, ◌∙◌, subst, ⊎_elim, arith}
 use lib.ListN.{length-map}
 use Rattle.std.proofs.lemmas.List.{length-take-le}
 use Rattle.std.proofs.lemmas.Bool.{true≢false, both_ways, cases_Bool, and_parts, leb-true, lt-ltb, cond-true}
@@ -9,9 +9,8 @@ use Rattle.hierarchy.specs.declared.Shortcut.{Shortcut}
 use Rattle.hierarchy.specs.Kinds.{kind_of}
 use Rattle.hierarchy.specs.Lands.{Land}
 use Rattle.hierarchy.specs.Books.{Book}
-use Rattle.hierarchy.specs.Deciders.{decided, decided-true, decided-false}
-use Rattle.hierarchy.specs.Levels.{every, near, needed, needs?, Needs, pairs, put, shortcut_over, visit}
-use Rattle.hierarchy.proofs.Lists.{filter-select}
+use Rattle.hierarchy.specs.Levels.{every, needed, is_needed, put, shortcut_over, visit}
+use Rattle.hierarchy.proofs.Needed.{needed_needs, other_needs_not}
 use Rattle.levelling.specs.declared.book.Book.{Book as Held}
 use Rattle.levelling.specs.Halves.{MiddlesNear}
 use Rattle.levelling.specs.Meaning.{meaning, with_level}
@@ -28,7 +27,7 @@ few_in k book = omega (arith, length-take-le book.count book.shortcuts (omega (a
 
 module _ {C : Type 0} (k : Costs C) (rule : ℕ → ℕ → Bool) (i : ℕ) (book : Book (kind_of k)) (v : ℕ) (few : length book.shortcuts ≤ 2048) (land : Land (kind_of k)) where
   abbrev test : ℕ × ℕ → Bool
-  test p = decided (needs? land i book v p)
+  test = is_needed land i book v
 
   abbrev near_v : ℕ → Bool
   near_v = is_near land.size book i v
@@ -44,7 +43,7 @@ module _ {C : Type 0} (k : Costs C) (rule : ℕ → ℕ → Bool) (i : ℕ) (boo
   Inner f s = Collected (inner land.size near_v test f s)
 
   pub start : Outer 0 []
-  start = begun _ _ _ _ few _ (filter-select (needs? land i book v) (pairs (near land i book v)))
+  start = begun _ _ _ _ few _ refl
 
   pub pass : (f : ℕ) (found : List (Shortcut C)) → f < land.size → near_v f ≡ false → Outer f found → Outer (f + 1) found
   pass f found h e = subst (λ l. Collected l found) (passes land.size near_v test f h e)
@@ -59,10 +58,10 @@ module _ {C : Type 0} (k : Costs C) (rule : ℕ → ℕ → Bool) (i : ℕ) (boo
     marked : get_or marks s false ≡ true → (near_v s ≡ true) × (test (f, s) ≡ true)
     marked e =
         let p = (told s on).0 e in
-        (p.1, ⊎_elim (λ t. t) (λ t. absurd (decided-false (needs? land i book v (f, s)) t p.2)) (cases_Bool (test (f, s))))
+        (p.1, ⊎_elim (λ t. t) (λ t. absurd (other_needs_not land i book v (f, s) t p.2)) (cases_Bool (test (f, s))))
 
     unmarked : get_or marks s false ≡ false → near_v s ≡ true → test (f, s) ≡ false
-    unmarked e n = ⊎_elim (λ t. absurd (both_ways _ e ((told s on).1 (later, n, decided-true (needs? land i book v (f, s)) t)))) (λ t. t) (cases_Bool (test (f, s)))
+    unmarked e n = ⊎_elim (λ t. absurd (both_ways _ e ((told s on).1 (later, n, needed_needs land i book v (f, s) t)))) (λ t. t) (cases_Bool (test (f, s)))
 
     at_pair : get_or marks s false ≡ true → Inner f s found → Collected ((f, s) ∷ inner land.size near_v test f (s + 1)) found
     at_pair e = let p = marked e in subst (λ l. Collected l found) (takes land.size near_v test f s on p.0 p.1)

@@ -1,7 +1,5 @@
-use Rattle.std.proofs.Common.{◌≡◌, ℕ, ◌<◌, Bool, true, sym, ap, ◌∙◌, ⊎_elim, arith}
-use Rattle.std.proofs.lemmas.Bool.{cases_eq}
+use Rattle.std.proofs.Common.{arith}
 use Rattle.levelling.specs.Meaning.{meaning}
-use Rattle.levelling.specs.Beaten.{MarksBeaten}
 use Rattle.levelling.proofs.Beaten.{rows_more}
 use Rattle.levelling.proofs.aside.mark_beaten.Goals as goal
 

@@ -1,4 +1,4 @@
-use Rattle.std.proofs.Common.{◌≡◌, ℕ, ◌+◌, true, false, sym, ◌∙◌, subst, arith}
+use Rattle.std.proofs.Common.{◌≡◌, ℕ, ◌+◌, sym, ◌∙◌, subst, arith}
 use Rattle.levelling.specs.declared.book.Book.{Book}
 use Rattle.levelling.specs.Meaning.{meaning}
 use Rattle.levelling.specs.Begun.{RowWritten}

@@ -1,4 +1,4 @@
-use Rattle.std.proofs.Common.{◌≡◌, ℕ, true, false, get_or, is_some, Option, sym, ap, ◌∙◌, subst, arith, below_more}
+use Rattle.std.proofs.Common.{◌≡◌, ℕ, true, false, get_or, is_some, Option, ap, ◌∙◌, arith, below_more}
 use Rattle.std.proofs.lemmas.Bool.{both_ways}
 use Rattle.levelling.specs.Meaning.{meaning}
 use Rattle.levelling.specs.Near.{by_links}

@@ -1,4 +1,3 @@
-use Rattle.std.proofs.Common.{Some, None, subst}
 use Rattle.levelling.specs.Meaning.{meaning}
 use Rattle.levelling.proofs.Needing.{open_need, left_need}
 use Rattle.levelling.proofs.needs.needs_from.Goals as goal

@@ -1,7 +1,6 @@
-use Rattle.std.proofs.Common.{◌≡◌, ℕ, ◌-◌, ◌≤◌, sym, ap, ◌∙◌, subst, arith}
+use Rattle.std.proofs.Common.{◌-◌, ◌≤◌, sym, ap, ◌∙◌, subst, arith}
 use Rattle.hierarchy.specs.Lands.{land_of}
-use Rattle.hierarchy.specs.Levels.{start, levelling, rounds}
-use Rattle.levelling.specs.Meaning.{meaning}
+use Rattle.hierarchy.specs.Levels.{levelling, rounds}
 use Rattle.levelling.proofs.Fits.{book_fits}
 use Rattle.levelling.proofs.Going.{one-round, no_round, start-bounded}
 use Rattle.levelling.proofs.rounds.level.Goals as goal

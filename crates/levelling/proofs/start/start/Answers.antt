@@ -1,5 +1,4 @@
-use Rattle.std.proofs.Common.{◌≡◌, ℕ, ◌≤◌, sym, ap, ◌∙◌, subst, arith}
-use Rattle.hierarchy.specs.Kinds.{kind_of}
+use Rattle.std.proofs.Common.{ℕ, ap, subst, arith}
 use Rattle.hierarchy.specs.Lands.{terrain_of}
 use Rattle.hierarchy.proofs.Lands.{lawful_land}
 use Rattle.levelling.specs.Meaning.{meaning}

@@ -1,4 +1,4 @@
-use Rattle.std.proofs.Common.{sym, arith}
+use Rattle.std.proofs.Common.{arith}
 use Rattle.std.proofs.lemmas.Bool.{le-ltb}
 use Rattle.levelling.proofs.Halves.{halves_taken}
 use Rattle.levelling.proofs.book.Book.halves_of.Goals as goal
