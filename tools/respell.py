@@ -68,7 +68,7 @@ def collect():
                 name = m[1]
                 if re.search(r":\s*goal\.", line):
                     made.add(name)
-                elif "-" not in name and name[0].isupper() and "_" in name:
+                elif "-" not in name and name[0].isupper() and name[1:2].islower() and "_" in name:
                     kinds[name].add("fact")
                 elif "-" not in name:
                     if re.match(r"\s*(unfoldable|abbrev)\b|  pub \w+ : ", line) and "/specs/" in p:

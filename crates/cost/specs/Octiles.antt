@@ -1,7 +1,7 @@
 -- Octile costs: straight and diagonal steps worth at most 16777215, and Over, which stands at 16777216 straight steps.
 --   octile    m straight and n diagonal steps, or Over where they are worth too much
 --   steps_of  what `Octile::steps` answers
---   *-o       what the ghost members of `Cost` are at `Octile`
+--   *_o       what the ghost members of `Cost` are at `Octile`
 use Rattle.std.specs.Prelude.{◌≡◌, ℕ, ◌+◌, ◌*◌, ◌/◌, ◌%◌, Bool, true, false, cond, ◌&&◌, Some, None, Option, nat_lt, refl}
 use Rattle.std.proofs.lemmas.Bool.{or_left}
 use Rattle.cost.specs.Worth.{below, within, told}

@@ -7,7 +7,7 @@ use Rattle.std.proofs.lemmas.Bool.{and_parts, cases_lt, cond-true, cond-false, l
 use Rattle.cost.specs.declared.seconds.Seconds.{Seconds}
 use Rattle.cost.specs.Laws.{CostLaws}
 use Rattle.cost.specs.Ranks.{Ranked, laws_by_rank}
-use Rattle.cost.specs.Seconds.{seconds, zero_s, over_s, plus_s, less_s, way_s, word_s, unword_s}
+use Rattle.cost.specs.Seconds.{zero_s, over_s, plus_s, less_s, way_s, word_s, unword_s}
 
 pub same_seconds : (x y : Seconds) → x.number ≡ y.number → x ≡ y
 same_seconds x y e = λ i. record { number = e i; capped = is_prop→PathP (λ j. e j ≤ 16777216) (λ j. le_prop) x.capped y.capped i }

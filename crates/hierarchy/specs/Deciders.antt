@@ -1,6 +1,6 @@
 -- Shown: whether a way is set aside, and whether a place climbs to another, is decided.
 --   decided     what a decision came to
---   set-aside?  a way is set aside or not
+--   set_aside?  a way is set aside or not
 --   climbs?     some chain rises from a to b or none does
 use Rattle.std.specs.Prelude.{◌≡◌, ℕ, ◌<◌, Bool, true, false, cond, not, ◌&&◌, T, ◌⊎◌, List, [], ◌∷◌, is_some, Some, None, nat_eq, nat_lt, refl}
 use Rattle.std.proofs.Common.{sym, ◌∙◌, ap, subst, inl, inr, ⊎_elim, eqb→eq}

@@ -1,7 +1,7 @@
 -- Shown: the links that lead to marked places are those that lead to relevant ones, where the marks are by climbing, ends and top.
-use Rattle.std.proofs.Common.{◌≡◌, ℕ, ◌<◌, ◌≤◌, Bool, true, false, cond, not, ◌&&◌, ◌||◌, eqb, ltb, List, get_or, None, Option, sym, refl, ap, ◌∙◌, inl, inr, ⊎_elim}
+use Rattle.std.proofs.Common.{◌≡◌, ℕ, ◌<◌, ◌≤◌, Bool, true, false, cond, not, ◌||◌, eqb, ltb, List, get_or, None, Option, sym, refl, ap, ◌∙◌, inl, inr, ⊎_elim}
 use mathlib.Core.Path.{fun_ext}
-use Rattle.std.proofs.lemmas.Bool.{both_ways, cases_Bool, cases_lt, or_cases, or_left, or_right, and_left, and_right, le-ltb, eqb-true, eq-eqb, cond-false}
+use Rattle.std.proofs.lemmas.Bool.{cases_Bool, cases_lt, or_cases, or_left, or_right, and_left, and_right, le-ltb, eqb-true, eq-eqb, cond-false}
 use Rattle.hierarchy.specs.Kinds.{Kind}
 use Rattle.hierarchy.specs.Lands.{Land}
 use Rattle.hierarchy.specs.Books.{Book, link}

@@ -10,5 +10,5 @@ returns g c =
     let shut = g.G.Ground.shuts ground in
     let land = land_of g.G.C.Cost g.G.Ground ground in record {
       kept = well_levelled land (lawful_land (terrain_of g.G.C.Cost g.G.Ground ground) shut (g.G.Ground.laws ground) shut);
-      tested = need_is_tested land;
+      tested = need_is_tested;
     }
