@@ -1,6 +1,6 @@
 -- The order of octile costs in the words of √2, with no sign and no square of a difference.
 --   LessAtRoot  m + n√2 < p + q√2, shown by two fractions with √2 between them
---   LessWorth    there are such fractions
+--   LessWorth   there are such fractions
 use Rattle.std.specs.Prelude.{ℕ, ◌+◌, ◌*◌, ◌<◌}
 
 -- low / under < √2 < high / above, and m + nr < p + qr at both fractions r, and so at √2, since both sides are linear in r

@@ -1,7 +1,7 @@
 -- Seconds as costs: whole numbers up to 16777215, and Over, which stands at the next number.
---   seconds   n seconds, or Over where that is too many
+--   seconds  n seconds, or Over where that is too many
 --   number_of what `Seconds::number` answers
---   *_s       what the ghost members of `Cost` are at `Seconds`
+--   *_s      what the ghost members of `Cost` are at `Seconds`
 use Rattle.std.specs.Prelude.{ℕ, ◌+◌, ◌≤◌, min, Bool, cond, ◌&&◌, Some, None, Option, nat_le, nat_lt}
 use Rattle.std.proofs.Common.{arith}
 use Rattle.cost.specs.declared.seconds.Seconds.{Seconds}

@@ -1,8 +1,8 @@
 -- How many places are free and how many ways are present.
---   count         how many numbers below n have a property
---   count_pairs   how many pairs a < b of numbers below n have a property
---   free_count    how many places are free
---   way_count     how many ways are present, each counted once
+--   count        how many numbers below n have a property
+--   count_pairs  how many pairs a < b of numbers below n have a property
+--   free_count   how many places are free
+--   way_count    how many ways are present, each counted once
 use Rattle.std.specs.Prelude.{ℕ, zero, suc, ◌+◌, Bool, cond, is_some, Option}
 use Rattle.ground.specs.Marks.{free_under}
 

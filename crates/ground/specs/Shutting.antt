@@ -1,8 +1,8 @@
 -- What shutting and clearing do.
 --   refuses_shut, refuses_clear  why the call is refused, if it is
 --   with_place, without_place    the set with the place in it, and without it
---   Marked                       the answer, and the size and the set of shut places after a call that may alter the set
---   Altered                      the same of a ground, which keeps its chart
+--   Marked   the answer, and the size and the set of shut places after a call that may alter the set
+--   Altered  the same of a ground, which keeps its chart
 --   Shut, Cleared                the effect of shutting and of clearing
 use Rattle.std.specs.Prelude.{◌≡◌, ℕ, Bool, true, false, cond, Some, None, Option, Result, ◌==◌, nat_lt}
 use Rattle.ground.specs.declared.refusal.Refusal.{Refusal}

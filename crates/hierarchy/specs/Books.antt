@@ -1,8 +1,8 @@
 -- The book, and the links that it leaves.
---   Book      levels, the ways kept, which are those not set aside, and shortcuts
---   joins     the shortcut joins the two places
+--   Book              levels, the ways kept, which are those not set aside, and shortcuts
+--   joins             the shortcut joins the two places
 --   shortcut_between  the earliest shortcut that joins them
---   link      the price of the link: a way kept, or a shortcut
+--   link              the price of the link: a way kept, or a shortcut
 use Rattle.std.specs.Prelude.{ℕ, Bool, cond, not, ◌&&◌, ◌||◌, List, [], ◌∷◌, Some, None, Option, ◌==◌, nat_lt}
 use Rattle.std.specs.Option.{option_map}
 use Rattle.ground.specs.Earliest.{or_else}

@@ -1,10 +1,10 @@
 -- Chains: which go from link to link, and how their levels run.
 --   Rises, Stays, Falls  each level is greater than, equal to, less than the one before
---   Climbs               some chain from a to b rises
---   Arching              levels rise, then stay, then fall; they stay over more than one link only at the top
---   Without              a chain does not pass v
---   AtMost               a price is a cost that is at most another
---   Round                some arching chain from a to b without v costs at most that
+--   Climbs   some chain from a to b rises
+--   Arching  levels rise, then stay, then fall; they stay over more than one link only at the top
+--   Without  a chain does not pass v
+--   AtMost   a price is a cost that is at most another
+--   Round    some arching chain from a to b without v costs at most that
 use Rattle.std.specs.Prelude.{◌≡◌, ℕ, ◌<◌, ◌≤◌, false, ◌≢◌, ◌⊎◌, List, [], ◌∷◌, ◌++◌, length, Some}
 use Rattle.hierarchy.specs.Kinds.{Kind, Price}
 use Rattle.hierarchy.specs.Walks.{end, along}

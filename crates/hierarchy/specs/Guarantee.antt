@@ -1,10 +1,10 @@
 -- The guarantee, which holds in every season: after any list of calls from a new draft, refused ones included.
---   shut_by      the first shut set as altered by the accepted shuttings and clearings among the calls
---   present      the ways present after the calls: the chart's under that set
---   LeastWalk    the places are a walk that costs c, and no walk between its ends costs less
---   Asked        both places are on the ground and free, and the record table is long enough
---   Honest       every shortcut is permitted, and costs what the least walk between its ends costs
---   Narrow       every settled place is one of the two asked, or climbs from one of them, or stands at the top level
+--   shut_by     the first shut set as altered by the accepted shuttings and clearings among the calls
+--   present     the ways present after the calls: the chart's under that set
+--   LeastWalk   the places are a walk that costs c, and no walk between its ends costs less
+--   Asked       both places are on the ground and free, and the record table is long enough
+--   Honest      every shortcut is permitted, and costs what the least walk between its ends costs
+--   Narrow      every settled place is one of the two asked, or climbs from one of them, or stands at the top level
 --   SeasonKept  the guarantee
 use Rattle.std.specs.Prelude.{◌≡◌, ℕ, ◌<◌, ◌≤◌, Bool, true, false, cond, List, [], ◌∷◌, length, take, Some}
 use Rattle.std.specs.List.{slice_get}

@@ -1,8 +1,8 @@
 -- Laying a route out over ways.
---   chain_to   the chain that the predecessors lead back along, from a to x
---   lay_link   a link from x to y as the places that follow x: a way as it is, a shortcut as its two halves from the end where it
+--   chain_to  the chain that the predecessors lead back along, from a to x
+--   lay_link  a link from x to y as the places that follow x: a way as it is, a shortcut as its two halves from the end where it
 --              is entered, each half by earlier shortcuts
---   route      the places of the route from a to b
+--   route     the places of the route from a to b
 use Rattle.std.specs.Prelude.{ℕ, zero, suc, cond, List, [], ◌∷◌, ◌++◌, length, take, is_some, Some, None, ◌==◌}
 use Rattle.std.specs.List.{slice_get}
 use Rattle.hierarchy.specs.Kinds.{Kind}

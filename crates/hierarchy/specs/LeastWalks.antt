@@ -1,6 +1,6 @@
 -- Least walks: what they cost, and what holds of them on every ground.
---   distance          the cost of a least walk from a to b, none where there is no walk
---   Distinct          no place stands in the list twice
+--   distance        the cost of a least walk from a to b, none where there is no walk
+--   Distinct        no place stands in the list twice
 --   LeastWalksKeep  what holds of the least walks of a land
 use Rattle.std.specs.Prelude.{◌≡◌, ℕ, ◌<◌, ◌≤◌, ◌↔◌, List, [], ◌∷◌, length, Some, None, ◌≢◌, nat_eq}
 use Rattle.hierarchy.specs.Kinds.{Kind, Price}

@@ -1,6 +1,6 @@
 -- What levelling, search and layout come to, in the subject's words.
---   Lawful         what a land of a lawful ground keeps to
---   before         the book as it stood before shortcut number k
+--   Lawful        what a land of a lawful ground keeps to
+--   before        the book as it stood before shortcut number k
 --   WellLevelled  what holds of every book that levelling makes
 --   WellSearched  what holds of every search over such a book
 --   WellLaid      what holds of the layout of its links

@@ -1,14 +1,14 @@
 -- Levelling.
---   Needs       the pair needs a shortcut over v
---   is_needed   whether it does
---   near        the places linked to v of level i or i + 1
---   pairs       the pairs of different places of a list, in rising order of the first, then of the second
---   needed      those that need a shortcut over v
---   raise       every place of level i gets i + 1
---   start       the book before the first round
---   visit       what becomes of the book when v is visited
---   round       every place of level i is raised, and each of level i + 1 is visited once
---   levelling   the book of N levels
+--   Needs      the pair needs a shortcut over v
+--   is_needed  whether it does
+--   near       the places linked to v of level i or i + 1
+--   pairs      the pairs of different places of a list, in rising order of the first, then of the second
+--   needed     those that need a shortcut over v
+--   raise      every place of level i gets i + 1
+--   start      the book before the first round
+--   visit      what becomes of the book when v is visited
+--   round      every place of level i is raised, and each of level i + 1 is visited once
+--   levelling  the book of N levels
 use Rattle.std.specs.Prelude.{ℕ, zero, suc, ◌+◌, ◌-◌, Bool, true, cond, ◌&&◌, ◌||◌, List, [], ◌∷◌, ◌++◌, map, length, is_some, None, not, ◌==◌, nat_eq, nat_le}
 use Rattle.std.specs.Option.{unwrap_or}
 use Rattle.hierarchy.specs.declared.Shortcut.{Shortcut}

@@ -1,10 +1,10 @@
 -- Worked samples: grounds and seasons, and what the definitions say of them.
 --   seconds_kind, octile_kind  the two cost kinds
 --   trail_list, trails, sheet  the terrain and the land of a trail list in seconds, and the land of a sheet
---   Samples                    what levelling, searching and laying out come to
---   Told                       an answer, with the places of a route and with costs as words
+--   Samples        what levelling, searching and laying out come to
+--   Told           an answer, with the places of a route and with costs as words
 --   OnTrails, OnSheet          each call of the season is answered by what stands beside it
---   SeasonSamples              seasons, call by call
+--   SeasonSamples  seasons, call by call
 use Rattle.std.specs.Prelude.{◌≡◌, ℕ, Bool, true, false, List, [], ◌∷◌, map, take, replicate, None}
 use Rattle.cost.specs.declared.seconds.Seconds.{Seconds}
 use Rattle.cost.specs.Seconds.{seconds, zero_s, over_s, plus_s, less_s, way_s, word_s, unword_s}

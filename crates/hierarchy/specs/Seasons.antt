@@ -1,8 +1,8 @@
 -- Seasons: any list of calls from a new draft.
---   Call      a call, with the rule of a levelling, and the record table and the place list of a route
---   Post      the number of levels, the shut places, and the book with its rule where the post is levelled
---   Effect    what a call answers, the post after it, and the memory handed to it as it is then
---   effect    the effect of a call
+--   Call    a call, with the rule of a levelling, and the record table and the place list of a route
+--   Post    the number of levels, the shut places, and the book with its rule where the post is levelled
+--   Effect  what a call answers, the post after it, and the memory handed to it as it is then
+--   effect  the effect of a call
 --   new_draft, after_calls  the post at first, and after a list of calls
 use Rattle.std.specs.Prelude.{ℕ, Bool, List, [], ◌∷◌, Some, None, Ok, Err, Option, Result}
 use Rattle.ground.specs.declared.refusal.Refusal.{Refusal}

@@ -1,11 +1,11 @@
 -- Walks and chains. Each goes from a first place over a list of further places; its steps are ways, or links, given as the price
 -- of each pair.
---   end        the last place
---   along      the price of the whole, none where a step is missing
---   Walk       some walk from a to b costs c
---   Least      and none costs less
---   Joined     there is a walk from a to b
---   SetAside   a way that some walk between its ends beats
+--   end       the last place
+--   along     the price of the whole, none where a step is missing
+--   Walk      some walk from a to b costs c
+--   Least     and none costs less
+--   Joined    there is a walk from a to b
+--   SetAside  a way that some walk between its ends beats
 use Rattle.std.specs.Prelude.{◌≡◌, ℕ, true, false, List, [], ◌∷◌, Some}
 use Rattle.hierarchy.specs.Kinds.{Kind, Price, add}
 

@@ -1,6 +1,6 @@
 -- Shown: an entry that names the earliest shortcut tells the halves of the link by the first n shortcuts.
---   below_n    a number counted from 1, if it is one of the first n
---   told       the halves that an entry tells
+--   below_n  a number counted from 1, if it is one of the first n
+--   told     the halves that an entry tells
 use Rattle.std.proofs.Common.{◌≡◌, ℕ, zero, suc, ◌+◌, ◌*◌, ◌<◌, ◌≤◌, true, false, cond, ◌&&◌, ltb, ◌⊎◌, List, [], ◌∷◌, length, get_or, take, is_some, Some, None, Option, sym, refl, ap, ◌∙◌, inl, inr, ⊎_elim, arith, length-take}
 use Rattle.std.proofs.lemmas.Bool.{cases_lt, lt-ltb, le-ltb, and_left, and_right}
 use Rattle.std.proofs.lemmas.List.{get_or_default}

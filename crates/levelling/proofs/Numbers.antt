@@ -1,5 +1,5 @@
 -- Shown: the number of the earliest shortcut between two places finds that shortcut, and stays when another comes last.
---   at_number   the shortcut of a number, as `number_between` tells it
+--   at_number    the shortcut of a number, as `number_between` tells it
 --   then_number  that number, or if there is none that of the last shortcut if it joins them
 use Rattle.std.proofs.Common.{◌≡◌, ℕ, zero, suc, ◌≤◌, Bool, true, false, cond, List, [], ◌∷◌, ◌++◌, length, Some, None, Option, sym, refl, ap, ◌∙◌, arith}
 use Rattle.std.specs.List.{slice_get}

@@ -1,7 +1,7 @@
 -- Shown: how the pairs of neighbours that pass a test follow one another.
---   after   the places from f on that are near
---   outer   the pairs that are left before the first place is f
---   inner   the pairs that are left when the first place is f, before the second is s
+--   after  the places from f on that are near
+--   outer  the pairs that are left before the first place is f
+--   inner  the pairs that are left when the first place is f, before the second is s
 use Rattle.std.proofs.Common.{◌≡◌, ℕ, ◌+◌, ◌<◌, ◌≤◌, Bool, true, false, cond, List, [], ◌∷◌, ◌++◌, map, drop, refl, ap, ◌∙◌, arith}
 use Rattle.std.proofs.lemmas.List.{drop_more, drop_all}
 use Rattle.std.proofs.lemmas.Bool.{cond-true, cond-false}

@@ -1,9 +1,9 @@
 -- Which ways are set aside.
---   mark_at       the mark of a pair, at 256 × the first place + the second
+--   mark_at      the mark of a pair, at 256 × the first place + the second
 --   MarksBeaten  the marks of the pairs with a as their first place say whether some walk over links beats the link
 --   MarksKept    those of other pairs of places below 256 are as they were
---   beaten        a link that costs more than what is known of its end
---   leaves        a way that is marked is not kept
+--   beaten       a link that costs more than what is known of its end
+--   leaves       a way that is marked is not kept
 --   BeatenAside  the ways kept are those that no walk over links beats, and nothing else differs
 use Rattle.std.specs.Prelude.{◌≡◌, ℕ, ◌+◌, ◌*◌, ◌<◌, Bool, false, cond, ◌&&◌, List, Some, None, Decides, Option, ◌≢◌, slice_index_or}
 use Rattle.cost.specs.declared.Cost.{Ghosts as Costs}

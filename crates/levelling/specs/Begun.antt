@@ -1,9 +1,9 @@
 -- How a book is begun.
---   Rewritten       only the ways kept differ, and they are as given
+--   Rewritten      only the ways kept differ, and they are as given
 --   RowWritten     of the ways from a those to the first n places are as f makes them, and nothing else differs
 --   RowsWritten    the same of the ways from the first i places
 --   LevelsEntered  the first n places have level 0 where they are shut and 1 where they are free, and nothing else differs
---   enters          a way that there is comes to be kept
+--   enters         a way that there is comes to be kept
 use Rattle.std.specs.Prelude.{◌≡◌, ℕ, Bool, cond, ◌&&◌, Option, ◌==◌, nat_lt}
 use Rattle.ground.specs.Earliest.{or_else}
 use Rattle.hierarchy.specs.Kinds.{Kind, Price}

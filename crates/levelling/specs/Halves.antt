@@ -1,7 +1,7 @@
 -- How a link is divided.
 --   halves_at      the halves of the shortcut of that number, counted from 1
 --   halves_before  the halves of the link between two places, if it is one of the first n shortcuts
---   MiddlesNear   every shortcut is divided at a place below 256
+--   MiddlesNear    every shortcut is divided at a place below 256
 use Rattle.std.specs.Prelude.{◌≡◌, ℕ, zero, suc, ◌<◌, cond, ◌&&◌, List, take, is_some, Some, None, Option, nat_lt}
 use Rattle.std.specs.List.{slice_get}
 use Rattle.std.specs.Option.{option_map}

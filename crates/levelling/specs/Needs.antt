@@ -1,9 +1,9 @@
 -- Which pairs of neighbours need a shortcut.
---   Detoured    some arching chain from a to b without v costs at most the two links by v
+--   Detoured   some arching chain from a to b without v costs at most the two links by v
 --   MarksNeed  a mark says of a later neighbour that it needs a shortcut over v
---   is_open     a later neighbour whose link, if it has one, costs more than the two links by v
---   Beyond      of the marked places those to which every walk over detour steps costs more, as far as a bound tells
---   Covers      a price is at least what each marked pair costs by v
+--   is_open    a later neighbour whose link, if it has one, costs more than the two links by v
+--   Beyond     of the marked places those to which every walk over detour steps costs more, as far as a bound tells
+--   Covers     a price is at least what each marked pair costs by v
 use Rattle.std.specs.Prelude.{◌≡◌, ℕ, ◌+◌, ◌<◌, Bool, true, false, not, ◌&&◌, List, is_some, Decides, Option, nat_lt, slice_index_or}
 use Rattle.cost.specs.declared.Cost.{Ghosts as Costs}
 use Rattle.hierarchy.specs.declared.SearchRecord.{SearchRecord}

@@ -1,5 +1,5 @@
 -- What a search from a place within a bound tells.
---   Told            a settled place has the cost of a least walk to it; every walk to another costs more than the bound
+--   Told           a settled place has the cost of a least walk to it; every walk to another costs more than the bound
 --   ReachedWithin  so it is with each of the first n places
 use Rattle.std.specs.Prelude.{◌≡◌, ℕ, ◌<◌, true, false, List, Option, slice_index_or}
 use Rattle.cost.specs.declared.Cost.{Ghosts as Costs}

@@ -1,6 +1,6 @@
 -- What a visit comes to.
---   may_sink    v may sink: each needed pair is permitted, and there is room for all of them
---   LookedAt   the place stays up, or these are the shortcuts that it needs
+--   may_sink  v may sink: each needed pair is permitted, and there is room for all of them
+--   LookedAt  the place stays up, or these are the shortcuts that it needs
 use Rattle.std.specs.Prelude.{◌≡◌, ℕ, ◌+◌, Bool, true, false, ◌&&◌, map, length, Some, None, Option, nat_le}
 use Rattle.cost.specs.declared.Cost.{Ghosts as Costs}
 use Rattle.hierarchy.specs.Kinds.{kind_of}

@@ -1,6 +1,6 @@
 -- Shown: a link that is not divided is laid out as it is, and one that is divided by its halves, each by the shortcuts before it.
---   then_at   the number of the earliest shortcut if one more is looked at, counted from 1
---   over      the places of a link, by its halves
+--   then_at  the number of the earliest shortcut if one more is looked at, counted from 1
+--   over     the places of a link, by its halves
 use Rattle.std.proofs.Common.{◌≡◌, ℕ, zero, suc, ◌<◌, Bool, true, false, cond, ◌&&◌, ltb, List, [], ◌∷◌, ◌++◌, take, is_some, Some, None, Option, sym, refl, ap, ◌∙◌, arith, length-take}
 use Rattle.std.proofs.lemmas.Bool.{lt-ltb}
 use Rattle.std.specs.List.{slice_get}

@@ -1,7 +1,7 @@
 -- Which places are marked by climbing.
---   goes_up       a link from a to x rises
+--   goes_up      a link from a to x rises
 --   MarksFrom    a place is marked after exactly when it was before, or p goes up to it
---   GoesUpTo    a marked place of level l below i goes up to x
+--   GoesUpTo     a marked place of level l below i goes up to x
 --   MarksLevel   a place is marked after exactly when it was before, or one of those goes up to it
 --   MarksClimbs  a place below n is marked exactly when the first place climbs to it
 use Rattle.std.specs.Prelude.{◌≡◌, ℕ, ◌<◌, Bool, true, false, ◌&&◌, ◌||◌, ◌⊎◌, List, is_some, Decides, nat_lt, slice_index_or}

@@ -1,7 +1,7 @@
 -- The places of a route as they are written.
 --   places_of  the places written so far
 --   Appended   more places are written, or there would be more than 256 in all
---   LaidOut   the places of the whole are written, or there are more than 256
+--   LaidOut    the places of the whole are written, or there are more than 256
 --   Near       every place is below 256
 use Rattle.std.specs.Prelude.{◌≡◌, ℕ, ◌<◌, Bool, true, false, List, ◌++◌, length, take, Some, None, Option, slice_index}
 use Rattle.routing.specs.declared.laid.Laid.{Laid}

@@ -1,6 +1,6 @@
 -- What routing comes to.
---   routed   an answer, with the record table and the place list as they are then
---   Handed   the places are written to the beginning of the list and the route is answered, or the list is too short and stays
+--   routed  an answer, with the record table and the place list as they are then
+--   Handed  the places are written to the beginning of the list and the route is answered, or the list is too short and stays
 use Rattle.std.specs.Prelude.{◌≡◌, ℕ, ◌<◌, ◌≤◌, List, [], ◌++◌, length, drop, Ok, Err, Result, slice_index_or}
 use Rattle.cost.specs.declared.Cost.{Ghosts as Costs}
 use Rattle.ground.specs.declared.refusal.Refusal.{Refusal}
