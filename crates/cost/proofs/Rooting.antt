@@ -1,7 +1,8 @@
 -- Shown: steps are below others by signs and squares exactly when they are worth less, by fractions on both sides of √2.
-use Rattle.std.proofs.Common.{◌≡◌, ℕ, ◌+◌, ◌-◌, ◌*◌, ◌<◌, true, ◌⊎◌, Decides, sym, ◌∙◌, inl, inr, ⊎_elim, mul-le-mul_right, mul-le-mul_left, arith}
+use Rattle.std.proofs.Common.{◌≡◌, ℕ, ◌+◌, ◌-◌, ◌*◌, ◌<◌, ◌≤◌, true, ◌⊎◌, Decides, sym, ◌∙◌, inl, inr, ⊎_elim, mul-le-mul_right, mul-le-mul_left, arith}
 use native.Mathlib.Nat.{mul-sub}
-use Rattle.std.proofs.lemmas.Bool.{cases_lt, ltb-true, lt-ltb, le-ltb, le-leb, lt-leb}
+use Rattle.std.proofs.lemmas.Bool.{cases_lt, ltb-true}
+use Rattle.std.proofs.lemmas.Bool.Decides.{nat_tests}
 use Rattle.cost.specs.Worth.{below}
 use Rattle.cost.specs.Roots.{LessAtRoot, LessWorth}
 use Rattle.cost.specs.Pell.{squares, root, below-weight}
@@ -20,16 +21,12 @@ over_high a b s t h k =
 
 from_root : (m n p q u v s t : ℕ) → LessAtRoot m n p q u v s t → below m n p q ≡ true
 from_root m n p q u v s t h =
-    ⊎_elim
-    (λ k. rw (lt-ltb m p k) (⊎_elim
-    (λ l. rw (lt-leb n q l) (lt-ltb _ _ (over_high (p - m) (n - q) s t h.high_above
-    (omega (arith, mul-sub t p m, mul-sub s n q, mul-le-mul_left t k, mul-le-mul_left s l)))))
-    (λ l. rw (le-leb n q l)) (cases_lt q n)))
-    (λ k. rw (le-ltb m p k) (⊎_elim
-    (λ l. rw (lt-leb q n l) (lt-ltb _ _ (under_low (m - p) (q - n) u v h.low_under
-    (omega (arith, mul-sub v m p, mul-sub u q n, mul-le-mul_left v k, mul-le-mul_left u l)))))
-    (λ l. absurd (omega (arith, h.at_low, mul-le-mul_left v k, mul-le-mul_left u l))) (cases_lt n q)))
-    (cases_lt m p)
+    let over : m < p → q < n → 2 * ((n - q) * (n - q)) < (p - m) * (p - m) =
+    λ k l. over_high (p - m) (n - q) s t h.high_above (omega (arith, h.at_high, mul-sub t p m, mul-sub s n q, mul-le-mul_left t k, mul-le-mul_left s l)) in
+    let under : p ≤ m → n < q → (m - p) * (m - p) < 2 * ((q - n) * (q - n)) =
+    λ k l. under_low (m - p) (q - n) u v h.low_under (omega (arith, h.at_low, mul-sub v m p, mul-sub u q n, mul-le-mul_left v k, mul-le-mul_left u l)) in
+    let never : p ≤ m → q ≤ n → ⊥ = λ k l. omega (arith, h.at_low, mul-le-mul_left v k, mul-le-mul_left u l) in
+    grind (arith, nat_tests)
 
 -- 2 · 93222358 / 131836323 is as little below √2
 lower : (a b : ℕ) → b < 93222358 →
@@ -42,14 +39,9 @@ lower a b s =
 less_low : (m n p q : ℕ) → n < 93222358 → q < 93222358 → below m n p q ≡ true →
     m * 131836323 + n * 186444716 < p * 131836323 + q * 186444716
 less_low m n p q s t h =
-    ⊎_elim
-    (λ k. ⊎_elim
-    (λ l. omega (arith, lower (p - m) (n - q) (omega arith), ltb-true _ _ (rw (lt-ltb m p k, lt-leb n q l) at h)))
-    (λ l. omega arith) (cases_lt q n))
-    (λ k. ⊎_elim
-    (λ l. omega (arith, lower (m - p) (q - n) (omega arith), ltb-true _ _ (rw (le-ltb m p k, lt-leb q n l) at h)))
-    (λ l. absurd (omega (arith, ltb-true _ _ (sym (below-weight m n p q s t) ∙ h)))) (cases_lt n q))
-    (cases_lt m p)
+    let r = lower (p - m) (n - q) (omega arith) in
+    let l = lower (m - p) (q - n) (omega arith) in
+    grind (arith, nat_tests)
 
 to_root : (m n p q : ℕ) → n < 93222358 → q < 93222358 → below m n p q ≡ true → LessAtRoot m n p q 186444716 131836323 131836323 93222358
 to_root m n p q s t h = record {

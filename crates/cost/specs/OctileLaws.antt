@@ -1,9 +1,11 @@
 -- Shown: octile costs keep the laws of costs. Their ranks are their weights, which are ordered and added as the costs are.
-use Rattle.std.specs.Prelude.{◌≡◌, ℕ, ◌+◌, ◌-◌, ◌*◌, ◌/◌, ◌%◌, ◌<◌, ◌≤◌, min, true, false, ◌⊎◌, ◌==◌, nat_lt, refl}
-use Rattle.std.proofs.Common.{sym, ap, ◌∙◌, inl, inr, ⊎_elim, arith}
+use Rattle.std.specs.Prelude.{◌≡◌, ℕ, ◌+◌, ◌-◌, ◌*◌, ◌/◌, ◌%◌, ◌<◌, ◌≤◌, min, true, false, not, ◌⊎◌, ◌==◌, ◌&&◌, nat_lt, refl}
+use Rattle.std.proofs.Common.{sym, ◌∙◌, inl, inr, ⊎_elim, arith}
 use mathlib.Core.HLevel.{is_prop→PathP}
 use Rattle.std.proofs.Math.Bool.{Bool-set}
-use Rattle.std.proofs.lemmas.Bool.{and_parts, or_cases, cases_Bool, cases_lt, ltb-true, ltb-false, lt-ltb, le-ltb, eqb-true, not-true, not-false, cond-true, cond-false, le-leb, lt-leb, true≢false}
+use Rattle.std.proofs.lemmas.Bool.{and_parts, or_cases, cases_Bool, cases_lt, ltb-true, ltb-false, lt-ltb, le-ltb, not-true, not-false, cond-true, cond-false}
+use Rattle.std.proofs.lemmas.Bool.Decides.{nat_tests}
+use Rattle.std.specs.Ordering.{nat_cmp, is_lt, is_le, on, eq_by_cmp}
 use Rattle.cost.specs.Laws.{CostLaws}
 use Rattle.cost.specs.Ranks.{Ranked, laws_by_rank}
 use Rattle.cost.specs.Worth.{below, within, told}
@@ -20,12 +22,10 @@ same_octile x y e f = λ i. record {
 
 -- more diagonal steps than the limit are worth more than it
 pub many_below : (l m n : ℕ) → l < n → below l 0 m n ≡ true
-many_below l m n h =
-    ⊎_elim (λ k. rw (lt-ltb l m k, le-leb 0 n (omega arith)))
-    (λ k. rw (le-ltb l m k, lt-leb n 0 (omega arith)) (lt-ltb _ _ (omega (arith, squares (l - m) (n - 0))))) (cases_lt l m)
+many_below l m n h = let s = squares (l - m) (n - 0) in grind (arith, nat_tests)
 
 few-within : (l m n : ℕ) → within l m n ≡ true → n ≤ l
-few-within l m n h = ⊎_elim (λ k. absurd (true≢false (sym (many_below l m n k) ∙ not-true _ h))) (λ k. k) (cases_lt l n)
+few-within l m n h = let b = many_below l m n in grind (arith, nat_tests)
 
 -- what steps worth at most the limit weigh, and what others do
 pub light_within : (l m n : ℕ) → l < 93222358 → within l m n ≡ true → weight m n ≤ weight l 0
@@ -40,16 +40,32 @@ top = 16777215 * 93222358 + 1
 
 -- a cost is worth at most the cap, or is Over
 known : (x : Octile) → ((x.diagonal ≤ 16777215) × (weight x.straight x.diagonal < top)) ⊎ ((x.straight ≡ 16777216) × (x.diagonal ≡ 0))
-known x =
-    ⊎_elim (λ h. inl (few-within 16777215 x.straight x.diagonal h, omega (arith, light_within 16777215 x.straight x.diagonal (omega arith) h)))
-    (λ h. let p = and_parts (x.straight == 16777216) (x.diagonal == 0) h in inr (eqb-true _ _ p.0, eqb-true _ _ p.1))
-    (or_cases (within 16777215 x.straight x.diagonal) _ x.capped)
+known x = ⊎_elim
+    (λ h. inl (few-within 16777215 x.straight x.diagonal h, omega (arith, light_within 16777215 x.straight x.diagonal (omega arith) h)))
+    (λ h. inr (grind (arith, nat_tests))) (or_cases (within 16777215 x.straight x.diagonal) _ x.capped)
 
 pub few : (x : Octile) → x.diagonal ≤ 16777215
 few x = omega (arith, known x)
 
+-- what `cmp` compares
+abbrev pub weight_of : Octile → ℕ
+weight_of x = weight x.straight x.diagonal
+
+-- two costs weigh the same where their steps are the same
+pub same_weight : (x y : Octile) → (x.straight == y.straight && x.diagonal == y.diagonal) ≡ eq_by_cmp (on weight_of nat_cmp) x y
+same_weight x y =
+    let h = weight-one x.straight x.diagonal y.straight y.diagonal (omega (arith, few x)) (omega (arith, few y)) in grind (arith, nat_tests)
+
+-- `<` is `less_o`, and `<=` that the other is not less
+pub less_weight : (x y : Octile) → is_lt (nat_cmp (weight_of x) (weight_of y)) ≡ less_o x y
+less_weight x y =
+    let h = below-weight x.straight x.diagonal y.straight y.diagonal (omega (arith, few x)) (omega (arith, few y)) in grind (arith, nat_tests)
+
+pub le_weight : (x y : Octile) → is_le (nat_cmp (weight_of x) (weight_of y)) ≡ not (less_o y x)
+le_weight x y = let h = less_weight y x in grind (arith, nat_tests)
+
 abbrev rank : Octile → ℕ
-rank x = min (weight x.straight x.diagonal) top
+rank x = min (weight_of x) top
 
 rank-one : (x y : Octile) → rank x ≡ rank y → x ≡ y
 rank-one x y e =
@@ -73,7 +89,7 @@ rank_less x y =
 rank-way : (x : Octile) → way_o x ≡ true → (0 < rank x) × (rank x ≤ 65535 * 93222358)
 rank-way x h =
     let p = and_parts (below 0 0 x.straight x.diagonal) _ h in
-    let a = ltb-true _ _ (sym (below-weight 0 0 x.straight x.diagonal (omega arith) (omega (arith, few x))) ∙ p.0) in
+    let a : 0 < weight_of x = grind (arith, nat_tests) in
     let b = light_within 65535 x.straight x.diagonal (omega arith) p.1 in
     omega arith
 
@@ -92,23 +108,18 @@ ranked = record {
 -- what is told of a cost that is not Over
 kept : (x : Octile) → x.straight < 16777216 → within 16777215 x.straight x.diagonal ≡ true
 kept x r =
-    ⊎_elim (λ h. h) (λ h. let p = and_parts (x.straight == 16777216) (x.diagonal == 0) h in absurd (omega (arith, eqb-true _ _ p.0)))
-    (or_cases (within 16777215 x.straight x.diagonal) _ x.capped)
-
-octile-back : (x : Octile) → x.straight < 16777216 → octile x.straight x.diagonal ≡ x
-octile-back x r = let h = kept x r in same_octile _ _ (cond-true _ _ _ h) (cond-true _ _ _ h)
+    ⊎_elim (λ h. h) (λ h. absurd (grind (arith, nat_tests))) (or_cases (within 16777215 x.straight x.diagonal) _ x.capped)
 
 of_word : (x : Octile) → x.straight < 16777216 → unword_o (x.straight * 4294967296 + x.diagonal) ≡ x
 of_word x r =
-    let d : (x.straight * 4294967296 + x.diagonal) / 4294967296 ≡ x.straight = omega (arith, few x) in
-    let e : (x.straight * 4294967296 + x.diagonal) % 4294967296 ≡ x.diagonal = omega (arith, few x) in
-    (λ i. octile (d i) (e i)) ∙ octile-back x r
+    let k = kept x r in
+    let f = few x in
+    same_octile _ _ (grind (arith, nat_tests)) (grind (arith, nat_tests))
 
 back : (x : Octile) → unword_o (word_o x) ≡ x
 back x =
-    ⊎_elim (λ h. ap unword_o (cond-true _ _ _ (lt-ltb _ _ h)) ∙ of_word x h)
-    (λ h. ap unword_o (cond-false _ _ _ (le-ltb _ _ h)) ∙ same_octile _ _ (omega (arith, known x)) (omega (arith, known x)))
-    (cases_lt x.straight 16777216)
+    ⊎_elim (λ h. rw (lt-ltb x.straight 16777216 h) (of_word x h))
+    (λ h. rw (le-ltb x.straight 16777216 h) (same_octile _ _ (omega (arith, known x)) (omega (arith, known x)))) (cases_lt x.straight 16777216)
 
 -- so many straight steps alone are worth more than the cap
 straight-within : (m n : ℕ) → within 16777215 m n ≡ true → m < 16777216

@@ -1,8 +1,9 @@
 -- Shown: which of two sums of steps is worth less, by one number a side. The fraction 131836323 / 93222358 is above √2 by so
 -- little (131836323² is 2 · 93222358² + 1) that no fraction with a smaller denominator lies between.
 use Rattle.std.specs.Prelude.{◌≡◌, ℕ, ◌+◌, ◌-◌, ◌*◌, ◌<◌, ◌≤◌, ◌⊎◌, nat_lt}
-use Rattle.std.proofs.Common.{sym, ◌∙◌, inl, inr, ⊎_elim, mul-le-mul, arith}
-use Rattle.std.proofs.lemmas.Bool.{cases_lt, cases_order, lt-ltb, le-ltb, le-leb, lt-leb}
+use Rattle.std.proofs.Common.{inl, inr, ⊎_elim, mul-le-mul, arith}
+use Rattle.std.proofs.lemmas.Bool.{cases_lt, cases_order}
+use Rattle.std.proofs.lemmas.Bool.Decides.{nat_tests}
 use Rattle.cost.specs.Worth.{below}
 
 abbrev pub weight : ℕ → ℕ → ℕ
@@ -34,23 +35,14 @@ root a b s =
     (cases_order (a * a) (2 * (b * b)))
 
 pub same_ltb : (a b c d : ℕ) → (a < b → c < d) → (c < d → a < b) → nat_lt a b ≡ nat_lt c d
-same_ltb a b c d f g =
-    ⊎_elim (λ h. lt-ltb a b h ∙ sym (lt-ltb c d (f h)))
-    (λ h. le-ltb a b h ∙ ⊎_elim (λ k. absurd (omega (arith, g k))) (λ k. sym (le-ltb c d k)) (cases_lt c d)) (cases_lt a b)
+same_ltb a b c d f g = grind (arith, nat_tests)
 
 pub below-weight : (m n p q : ℕ) → n < 93222358 → q < 93222358 → below m n p q ≡ nat_lt (weight m n) (weight p q)
 below-weight m n p q s t =
-    ⊎_elim
-    (λ h. rw (lt-ltb m p h) (⊎_elim
-    (λ k. rw (lt-leb n q k) (let r = root (p - m) (n - q) (omega arith) in same_ltb _ _ _ _ (λ e. omega arith) (λ e. omega arith)))
-    (λ k. rw (le-leb n q k) (sym (lt-ltb (weight m n) (weight p q) (omega arith)))) (cases_lt q n)))
-    (λ h. rw (le-ltb m p h) (⊎_elim
-    (λ k. rw (lt-leb q n k) (let r = root (m - p) (q - n) (omega arith) in same_ltb _ _ _ _ (λ e. omega arith) (λ e. omega arith)))
-    (λ k. rw (le-leb q n k) (sym (le-ltb (weight m n) (weight p q) (omega arith)))) (cases_lt n q)))
-    (cases_lt m p)
+    let r = root (p - m) (n - q) (omega arith) in
+    let l = root (m - p) (q - n) (omega arith) in
+    grind (arith, nat_tests)
 
 -- two pairs of one weight are one
 pub weight-one : (m n p q : ℕ) → n < 93222358 → q < 93222358 → weight m n ≡ weight p q → (m ≡ p) × (n ≡ q)
-weight-one m n p q s t e = omega (arith, apart m p, apart n q, root (m - p) (q - n) (omega arith), root (p - m) (n - q) (omega arith)) where
-  apart : (m p : ℕ) → (m - p ≡ 0) ⊎ (p - m ≡ 0)
-  apart m p = ⊎_elim (λ r. inl (omega arith)) (λ r. inr (omega arith)) (cases_lt m p)
+weight-one m n p q s t e = omega (arith, root (m - p) (q - n) (omega arith), root (p - m) (n - q) (omega arith))

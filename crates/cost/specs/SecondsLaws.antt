@@ -1,10 +1,11 @@
 -- Shown: seconds keep the laws of costs, since their numbers are ranks.
-use Rattle.std.specs.Prelude.{◌≡◌, ℕ, ◌<◌, ◌≤◌, true, ◌⊎◌, nat_le, refl}
-use Rattle.std.proofs.Common.{ap, ◌∙◌, inl, inr, ⊎_elim, arith}
+use Rattle.std.specs.Prelude.{◌≡◌, ℕ, ◌<◌, ◌≤◌, true, ◌⊎◌, refl}
+use Rattle.std.proofs.Common.{inl, inr, ⊎_elim, arith}
 use mathlib.Core.HLevel.{is_prop→PathP}
 use Rattle.std.proofs.Math.Bridge.{le_prop}
-use Rattle.std.proofs.lemmas.Bool.{and_parts, cases_lt, cond-true, cond-false, leb-true, lt-ltb, le-ltb}
+use Rattle.std.proofs.lemmas.Bool.{cases_lt}
 use Rattle.cost.specs.declared.seconds.Seconds.{Seconds}
+use Rattle.std.proofs.lemmas.Bool.Decides.{nat_tests}
 use Rattle.cost.specs.Laws.{CostLaws}
 use Rattle.cost.specs.Ranks.{Ranked, laws_by_rank}
 use Rattle.cost.specs.Seconds.{zero_s, over_s, plus_s, less_s, way_s, word_s, unword_s}
@@ -13,7 +14,7 @@ pub same_seconds : (x y : Seconds) → x.number ≡ y.number → x ≡ y
 same_seconds x y e = λ i. record { number = e i; capped = is_prop→PathP (λ j. e j ≤ 16777216) (λ j. le_prop) x.capped y.capped i }
 
 way_number : (x : Seconds) → way_s x ≡ true → (0 < x.number) × (x.number ≤ 65535)
-way_number x h = let p = and_parts (nat_le 1 x.number) _ h in (leb-true 1 x.number p.0, leb-true x.number 65535 p.1)
+way_number x h = (grind (arith, nat_tests), grind (arith, nat_tests))
 
 ranked : Ranked zero_s over_s plus_s less_s way_s (λ x. x.number) 16777216 65535
 ranked = record {
@@ -29,12 +30,10 @@ ranked = record {
 
 back : (x : Seconds) → unword_s (word_s x) ≡ x
 back x =
-    ⊎_elim (λ h. ap unword_s (cond-true _ _ _ (lt-ltb _ _ h)) ∙ same_seconds _ _ (omega arith))
-    (λ h. ap unword_s (cond-false _ _ _ (le-ltb _ _ h)) ∙ same_seconds _ _ (omega (arith, x.capped)))
-    (cases_lt x.number 16777216)
+    same_seconds _ _ (let c = x.capped in grind (arith, nat_tests))
 
 read : (n : ℕ) → n < 16777216 → word_s (unword_s n) ≡ n
-read n h = let e : (unword_s n).number ≡ n = omega arith in cond-true _ _ _ (lt-ltb (unword_s n).number 16777216 (omega arith)) ∙ e
+read n h = grind (arith, nat_tests)
 
 other : (n : ℕ) → (unword_s n ≡ over_s) ⊎ (word_s (unword_s n) ≡ n)
 other n =

@@ -9,8 +9,17 @@ ghost use Rattle.cost.specs.Laws.{CostLaws};
 pub mod octile;
 pub mod seconds;
 
+// The greatest cost but Over, which is held as the next number, and the greatest cost of a way: of seconds their number, of steps
+// what they are worth.
+const CAP: u32 = 16_777_215;
+
+const OVER: u32 = CAP + 1;
+
+const WAY_CAP: u32 = 65_535;
+
 /// A kind of cost. Its meaning is the ghost members: a fixed set of costs, all the values of the type, with a zero, a greatest
 /// cost Over, a sum and an order that keep `laws`, a test for the costs that may stand on a way, and a word for each cost.
+// Ord is no supertrait: the members of a supertrait would stand in each record of a cost's members that definitions take.
 pub trait Cost: Copy {
     ghost zero: { Self };
 
@@ -48,6 +57,7 @@ pub trait Cost: Copy {
     fn is_way_cost(self) -> bool
         ensures { result ≡ way self };
 
+    // These two are no From: the laws speak of what they answer, as the members `word` and `unword`.
     /// The 64-bit word of this cost.
     fn to_word(self) -> u64
         ensures { result ≡ word self };

@@ -2,23 +2,26 @@
 ghost use Rattle.std.specs.Prelude.{◌≡◌, ◌+◌, ◌*◌, ◌<◌, Decides};
 ghost use Rattle.cost.specs.Worth.{below, within};
 ghost use Rattle.cost.specs.Octiles.{octile, steps_of, zero_o, over_o, plus_o, less_o, way_o, word_o, unword_o};
-ghost use Rattle.cost.specs.OctileLaws.{laws_o};
+ghost use Rattle.cost.specs.OctileLaws.{laws_o, weight_of, same_weight};
 ghost use Rattle.cost.specs.Roots.{LessWorth};
 ghost use Rattle.std.proofs.Common.{rules, arith};
+ghost use Rattle.std.specs.Cmp.{partial_order_from_own_ties};
+ghost use Rattle.std.specs.Cmp.Rules.{comparing};
+ghost use Rattle.std.specs.Ordering.{nat_cmp, on, as_partial_cmp};
 
 use super::Octile;
-use crate::Cost;
+use crate::{CAP, Cost, OVER, WAY_CAP};
+use std::cmp::Ordering;
 
-const CAP: u32 = 16_777_215;
-
-const OVER: u32 = CAP + 1;
+// A word has the straight steps in its upper half and the diagonal ones in the lower.
+const UPPER: u64 = 4_294_967_296;
 
 impl Octile {
     /// So many steps, or Over where they are worth more than 16,777,215.
     pub fn new(straight: u32, diagonal: u32) -> Octile
         ensures { result ≡ octile straight diagonal }
     {
-        if is_within(CAP, straight, diagonal) {
+        if is_in_cap(straight, diagonal) {
             Octile { straight, diagonal }
         } else {
             Octile {
@@ -32,11 +35,7 @@ impl Octile {
     pub fn steps(self) -> Option<(u32, u32)>
         ensures { result ≡ steps_of self }
     {
-        if self.straight < OVER {
-            Some((self.straight, self.diagonal))
-        } else {
-            None
-        }
+        (self.straight < OVER).then_some((self.straight, self.diagonal))
     }
 
     /// Whether this cost is worth less than the other, straight steps being worth 1 and diagonal ones √2.
@@ -44,10 +43,36 @@ impl Octile {
         ensures by_squares { result ≡ less_o self other }
         ensures by_root { Decides result (LessWorth self.straight self.diagonal other.straight other.diagonal) }
     {
-        is_below(self.straight, self.diagonal, other.straight, other.diagonal)
+        self.is_less(other)
     }
 }
 
+// By the weight and not by the steps, so it is not derived.
+impl Ord for Octile {
+    ghost cmp = { on weight_of nat_cmp };
+
+    ghost total = { Prim.search (comparing, rules) };
+
+    ghost matches_partial_cmp = { Prim.search (comparing, rules) };
+
+    ghost matches_eq = { same_weight };
+
+    fn cmp(&self, other: &Octile) -> Ordering {
+        weight(self.straight, self.diagonal).cmp(&weight(other.straight, other.diagonal))
+    }
+}
+
+impl PartialOrd for Octile {
+    ghost partial_cmp = { as_partial_cmp (on weight_of nat_cmp) };
+
+    ghost laws = { partial_order_from_own_ties (Prim.search (comparing, rules)) same_weight };
+
+    fn partial_cmp(&self, other: &Octile) -> Option<Ordering> {
+        Some(self.cmp(other))
+    }
+}
+
+// Seconds has the same lines, and each names definitions of its own: there is nothing in them to say once.
 impl Cost for Octile {
     ghost zero = { zero_o };
 
@@ -65,9 +90,9 @@ impl Cost for Octile {
 
     ghost laws = { laws_o };
 
-    ghost small = { first_of (Prim.search rules, Prim.grind (arith, Self.row.coded.inj)) };
+    ghost small = { Prim.search rules };
 
-    ghost narrow = { first_of (Prim.search rules, Prim.grind (arith, Self.row.coded.inj)) };
+    ghost narrow = { Prim.search rules };
 
     fn zero() -> Octile {
         Octile::new(0, 0)
@@ -84,43 +109,33 @@ impl Cost for Octile {
         )
     }
 
+    #[tactic(auto, using(crate::specs::OctileLaws::less_weight))]
     fn is_less(self, other: Octile) -> bool {
-        self.is_worth_less(other)
+        self < other
     }
 
     fn is_way_cost(self) -> bool {
-        is_below(0, 0, self.straight, self.diagonal)
-            && is_within(65_535, self.straight, self.diagonal)
+        Octile::zero() < self && self <= Octile::new(WAY_CAP, 0)
     }
 
     fn to_word(self) -> u64 {
-        if self.straight < OVER {
-            self.straight as u64 * 4_294_967_296 + self.diagonal as u64
-        } else {
-            u64::MAX
-        }
+        self.steps().map_or(
+            u64::MAX,
+            |(straight, diagonal)| u64::from(straight) * UPPER + u64::from(diagonal),
+        )
     }
 
     fn from_word(bits: u64) -> Octile {
-        Octile::new((bits / 4_294_967_296) as u32, (bits % 4_294_967_296) as u32)
+        // Both fit, as the check shows; `u32::try_from` would ask for a case that there is not.
+        Octile::new((bits / UPPER) as u32, (bits % UPPER) as u32)
     }
 }
 
-// Whether m straight and n diagonal steps are worth less than p and q.
-fn is_below(m: u32, n: u32, p: u32, q: u32) -> bool
-    requires { (n < 93222358) × (q < 93222358) }
-    ensures by_squares { result ≡ below m n p q }
-    ensures by_root { Decides result (LessWorth m n p q) }
+// Whether so many steps are worth at most the cap.
+fn is_in_cap(straight: u32, diagonal: u32) -> bool
+    ensures { result ≡ within 16777215 straight diagonal }
 {
-    weight(m, n) < weight(p, q)
-}
-
-// Whether so many steps are worth at most `limit`.
-fn is_within(limit: u32, straight: u32, diagonal: u32) -> bool
-    requires { limit < 93222358 }
-    ensures { result ≡ within limit straight diagonal }
-{
-    diagonal <= limit && weight(straight, diagonal) <= weight(limit, 0)
+    diagonal <= CAP && weight(straight, diagonal) <= weight(CAP, 0)
 }
 
 // A whole number that is less exactly where the steps are worth less, as long as there are fewer than 93,222,358 diagonal ones:
@@ -128,5 +143,5 @@ fn is_within(limit: u32, straight: u32, diagonal: u32) -> bool
 fn weight(straight: u32, diagonal: u32) -> u64
     ensures { result ≡ straight * 93222358 + diagonal * 131836323 }
 {
-    straight as u64 * 93_222_358 + diagonal as u64 * 131_836_323
+    u64::from(straight) * 93_222_358 + u64::from(diagonal) * 131_836_323
 }

@@ -5,21 +5,15 @@ ghost use Rattle.cost.specs.SecondsLaws.{laws_s};
 ghost use Rattle.std.proofs.Common.{rules, arith};
 
 use super::Seconds;
-use crate::Cost;
-
-const OVER: u32 = 16_777_216;
+use crate::{Cost, OVER, WAY_CAP};
 
 impl Seconds {
     /// `number` seconds, or Over where that is more than 16,777,215.
     pub fn new(number: u64) -> Seconds
         ensures { result ≡ seconds number }
     {
-        if number < OVER as u64 {
-            Seconds {
-                number: number as u32,
-            }
-        } else {
-            Seconds { number: OVER }
+        Seconds {
+            number: number.min(u64::from(OVER)) as u32,
         }
     }
 
@@ -27,11 +21,7 @@ impl Seconds {
     pub fn number(self) -> Option<u32>
         ensures { result ≡ number_of self }
     {
-        if self.number < OVER {
-            Some(self.number)
-        } else {
-            None
-        }
+        (self.number < OVER).then_some(self.number)
     }
 }
 
@@ -52,36 +42,32 @@ impl Cost for Seconds {
 
     ghost laws = { laws_s };
 
-    ghost small = { first_of (Prim.search rules, Prim.grind (arith, Self.row.coded.inj)) };
+    ghost small = { Prim.search rules };
 
-    ghost narrow = { first_of (Prim.search rules, Prim.grind (arith, Self.row.coded.inj)) };
+    ghost narrow = { Prim.search rules };
 
     fn zero() -> Seconds {
         Seconds::new(0)
     }
 
     fn over() -> Seconds {
-        Seconds::new(OVER as u64)
+        Seconds::new(u64::from(OVER))
     }
 
     fn plus(self, other: Seconds) -> Seconds {
-        Seconds::new(self.number as u64 + other.number as u64)
+        Seconds::new(u64::from(self.number) + u64::from(other.number))
     }
 
     fn is_less(self, other: Seconds) -> bool {
-        self.number < other.number
+        self < other
     }
 
     fn is_way_cost(self) -> bool {
-        1 <= self.number && self.number <= 65_535
+        Seconds::zero() < self && self <= Seconds::new(u64::from(WAY_CAP))
     }
 
     fn to_word(self) -> u64 {
-        if self.number < OVER {
-            self.number as u64
-        } else {
-            u64::MAX
-        }
+        self.number().map_or(u64::MAX, u64::from)
     }
 
     fn from_word(bits: u64) -> Seconds {
