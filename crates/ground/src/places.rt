@@ -1,12 +1,14 @@
 //! The places of a ground, and which of them are shut.
 ghost use Rattle.std.specs.Prelude.{◌≤◌};
+ghost use Rattle.arrayvec.specs.ArrayVec.{array_vec_len};
+
+use arrayvec::ArrayVec;
 
 pub(crate) mod marks;
 
 /// Some number of places, at most 256, each shut or free.
 #[derive(Drop)]
 pub struct Places {
-    count: usize,
-    shut: [bool; 256],
-    ghost few: { count ≤ 256 },
+    shut: ArrayVec<bool, 256>,
+    ghost few: { array_vec_len shut ≤ 256 },
 }

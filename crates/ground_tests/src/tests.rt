@@ -2,6 +2,7 @@
 use cost::seconds::Seconds;
 use ground::{Ground, Refusal};
 use sheet::{Sheet, check_sheet};
+use std::array;
 use trails::{Record, TrailList, check_list};
 
 fn trail(from: usize, to: usize, seconds: u64) -> Record<Seconds> {
@@ -14,19 +15,13 @@ fn trail(from: usize, to: usize, seconds: u64) -> Record<Seconds> {
 
 // The number and the position of a refusal, or none.
 fn refused(answer: Result<(), Refusal>) -> Option<(u8, usize)> {
-    match answer {
-        Ok(()) => None,
-        Err(refusal) => Some((refusal.number(), refusal.position())),
-    }
+    let refusal = answer.err()?;
+    Some((refusal.number(), refusal.position()))
 }
 
 // Records of 1,025 different pairs.
 fn all_pairs_apart() -> [Record<Seconds>; 1025] {
-    let mut records = [trail(0, 1, 1); 1025];
-    for at in 0..1025 {
-        records[at] = trail(at / 64, 100 + at % 64, 1);
-    }
-    records
+    array::from_fn(|at| trail(at / 64, 100 + at % 64, 1))
 }
 
 #[test]

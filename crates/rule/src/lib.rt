@@ -44,8 +44,8 @@ impl<'a> Rule for SameValley<'a> {
     ghost pairs = { λ r. same_valley r.valleys.now };
 
     fn permits(&self, smaller: usize, larger: usize) -> bool {
-        let count = self.valleys.len();
-        smaller < count && larger < count && self.valleys[smaller] == self.valleys[larger]
+        let valley = self.valleys.get(smaller);
+        valley.is_some() && valley == self.valleys.get(larger)
     }
 }
 

@@ -2,7 +2,7 @@
 use Rattle.std.proofs.Common.{◌≡◌, ℕ, ◌*◌, ◌<◌, Bool, true, false, cond, ◌&&◌, ltb, None, refl, ap, ◌∙◌, arith}
 use Rattle.std.proofs.lemmas.Bool.{and_parts, ltb-true}
 use Rattle.sheet.specs.declared.Sheet.{Sheet}
-use Rattle.ground.specs.Marks.{shut_in, free_under, free_in}
+use Rattle.ground.specs.Marks.{size_in, shut_in, free_under, free_in}
 use Rattle.sheet.specs.Sheets.{way_between, sheet_chart}
 use Rattle.sheet.specs.Steps.{step_to, step_between, step_way, free_at, neighbour_of}
 use Rattle.sheet.proofs.Table.{by-table}
@@ -21,7 +21,7 @@ module _ (g : Sheet) (a b : ℕ) where
   free_is = ap (λ n. free_under n s) g.filled
 
   on-sheet : (k : ℕ) → free_in g.places k ≡ true → k < w * h
-  on-sheet k e = let l = ltb-true k g.places.count (and_parts (ltb k g.places.count) _ e).0 in omega (arith, g.filled)
+  on-sheet k e = let l = ltb-true k (size_in g.places) (and_parts (ltb k (size_in g.places)) _ e).0 in omega (arith, g.filled)
 
   pub by-steps : step_way (λ by. free_at (free_in g.places) (neighbour_of w h a by)) (step_between (free_in g.places) w h a b) ≡ sheet_chart w h s a b
   by-steps =

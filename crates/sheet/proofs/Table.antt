@@ -3,11 +3,12 @@ use Rattle.std.proofs.Common.{◌≡◌, ℕ, zero, suc, ◌+◌, ◌-◌, ◌*�
 use mathlib.Core.Path.{fun_ext}
 use Rattle.std.proofs.lemmas.Nat.{div-mul-add, mod-mul-add, div-add-mod', div_below, mod_below}
 use Rattle.std.proofs.lemmas.Bool.{and_left, and_right, lt-ltb, le-ltb, eq-eqb, ne_eqb, and_from, cases_lt, cases_order, cases_eq, cond-true, cond-false}
+use Rattle.std.specs.List.{find}
 use Rattle.cost.specs.declared.octile.Octile.{Octile}
 use Rattle.cost.specs.Octiles.{octile}
 use Rattle.sheet.specs.declared.steps.Step.{Step}
 use Rattle.sheet.specs.declared.steps.Offset.{Offset}
-use Rattle.sheet.specs.Steps.{table, below_end, moved, placed, neighbour_of, is_place, free_at, first_step, step_to, step_way}
+use Rattle.sheet.specs.Steps.{table, below_end, moved, placed, neighbour_of, is_place, free_at, step_to, step_way}
 use Rattle.sheet.specs.Sheets.{between, cell, way_between}
 use Rattle.sheet.proofs.Moves.{moved-below}
 
@@ -35,20 +36,20 @@ module _ (M C : ℤ → Option ℕ) (w : ℕ) (free : ℕ → Bool) (ra ca rb cb
 
   -- rows, or columns, that are far apart: no step of the table, and no way
   far_rows : 2 ≤ between ra rb → is_place (M (negsuc 0)) rb ≡ false → is_place (M (pos 0)) rb ≡ false → is_place (M (pos 1)) rb ≡ false →
-      step_way passes (first_step leads table) ≡ told
+      step_way passes (find leads table) ≡ told
   far_rows l u v z =
       let e = ne_eqb (between ra rb + between ca cb) 1 (λ q. omega arith) in
       let f = ne_eqb (between ra rb) 1 (λ q. omega arith) in
       simp (u, v, z, e, f)
 
   far_columns : 2 ≤ between ca cb → is_place (C (negsuc 0)) cb ≡ false → is_place (C (pos 0)) cb ≡ false → is_place (C (pos 1)) cb ≡ false →
-      step_way passes (first_step leads table) ≡ told
+      step_way passes (find leads table) ≡ told
   far_columns l p q r =
       let e = ne_eqb (between ra rb + between ca cb) 1 (λ q. omega arith) in
       let f = ne_eqb (between ca cb) 1 (λ q. omega arith) in
       simp (p, q, r, e, f, and_false)
 
-  agree : Lies M ra rb → Lies C ca cb → step_way passes (first_step leads table) ≡ told
+  agree : Lies M ra rb → Lies C ca cb → step_way passes (find leads table) ≡ told
   agree (far l u v z) k = far_rows l u v z
   agree (before e m u v z) (far l p q r) = far_columns l p q r
   agree (same e u v z) (far l p q r) = far_columns l p q r
@@ -161,5 +162,5 @@ by-table w h free a b la lb =
     let C : ℤ → Option ℕ = λ d. moved (a % w) d w in
     let one : (s : Step) → is_place (neighbour_of w h a s.to) b ≡ (is_place (M s.to.down) (b / w) && is_place (C s.to.right) (b % w)) =
     λ s. ap (is_place (neighbour_of w h a s.to)) (sym (div-add-mod' b w)) ∙ both w (M s.to.down) (C s.to.right) (b / w) (b % w) cb (λ n. moved-below (a % w) s.to.right w n) in
-    ap (λ leads. step_way (λ by. free_at free (neighbour_of w h a by)) (first_step leads table)) (fun_ext one)
+    ap (λ leads. step_way (λ by. free_at free (neighbour_of w h a by)) (find leads table)) (fun_ext one)
     ∙ agree M C w free (a / w) (a % w) (b / w) (b % w) (stays h (a / w) ra) (stays w (a % w) ca) (lies h (a / w) ra (b / w) rb) (lies w (a % w) ca (b % w) cb)

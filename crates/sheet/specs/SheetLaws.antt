@@ -2,6 +2,7 @@
 --   sheet-laws  the laws of a sheet
 use Rattle.std.specs.Prelude.{◌≡◌, ℕ, ◌+◌, ◌*◌, Bool, true, false, cond, ◌&&◌, Some, None, Option, ◌==◌, nat_eq, nat_lt, refl}
 use Rattle.std.proofs.Common.{ap, subst, ◌∙◌, arith}
+use Rattle.std.proofs.lemmas.List.{get_or_past}
 use Rattle.std.proofs.lemmas.Bool.{and_left, and_right, le-ltb, cond-false, not_from_true}
 use Rattle.cost.specs.declared.octile.Octile.{Octile}
 use Rattle.cost.specs.Octiles.{octile, way_o}
@@ -67,7 +68,7 @@ module _ (w h : ℕ) where
 pub sheet-laws : (g : Sheet) → GroundLaws (size_in g.places) (shut_in g.places) (sheet_chart g.width g.height)
 sheet-laws g = record {
   few = g.places.few;
-  shut-within = λ a l. and_left (nat_lt a g.places.count) _ (le-ltb a _ l);
+  shut-within = λ a l. get_or_past g.places.shut.items a false l;
   alike = chart-alike g.width g.height;
   apart = chart-apart g.width g.height;
   closed = λ s a b e. only_free g.width g.height s a b (and_right (nat_lt a (g.width * g.height)) _ (not_from_true (s a) e));

@@ -1,14 +1,18 @@
 -- Sheets: cells in rows, each free or blocked, with ways between free cells that touch.
 --   cell_count     how many cells there are, where a sheet may have so many
+--   decoded        the cell that a byte stands for, if it stands for one
 --   sheet_refusal  why a sheet is refused, if it is
 --   sheet_width, sheet_height, sheet_size, sheet_shut
 --                  the sheet that is made: as asked where it is accepted, otherwise without cells
 --   sheet_chart    the ways of a sheet, whatever is shut
-use Rattle.std.specs.Prelude.{ℕ, ◌+◌, ◌-◌, ◌*◌, ◌/◌, ◌%◌, Bool, cond, not, ◌&&◌, ◌||◌, List, length, is_some, Some, None, Option, ◌==◌, nat_lt, slice_index}
+use Rattle.std.specs.Prelude.{ℕ, ◌+◌, ◌-◌, ◌*◌, ◌/◌, ◌%◌, Bool, cond, not, ◌&&◌, ◌||◌, List, length, is_some, Some, None, Ok, Err, Option, Result, ◌==◌, nat_lt, slice_index}
 use Rattle.cost.specs.declared.octile.Octile.{Octile}
 use Rattle.cost.specs.Octiles.{octile}
 use Rattle.ground.specs.declared.refusal.Refusal.{Refusal}
 use Rattle.ground.specs.declared.refusal.Refusal.TheVariants.{SizeOutOfRange, WrongLength, CellUnknown}
+use Rattle.sheet.specs.declared.cell.Cell.{Cell}
+use Rattle.sheet.specs.declared.cell.Cell.TheVariants.{Free, Blocked}
+use Rattle.sheet.specs.declared.cell.UnknownCell.{UnknownCell}
 use Rattle.ground.specs.Earliest.{earliest}
 use Rattle.ground.specs.Marks.{free_under}
 
@@ -19,6 +23,9 @@ wrong_size w h = w == 0 || (h == 0 || nat_lt 256 (w * h))
 
 abbrev pub cell_count : ℕ → ℕ → Option ℕ
 cell_count w h = cond (wrong_size w h) None (Some (w * h))
+
+abbrev pub decoded : ℕ → Result Cell UnknownCell
+decoded byte = cond (byte == 0) (Ok Free) (cond (byte == 1) (Ok Blocked) (Err record {}))
 
 abbrev pub known_cell : ℕ → Bool
 known_cell byte = byte == 0 || byte == 1

@@ -6,6 +6,7 @@
 --   past          what a step costs that passes these cells, or none where one of them is not free
 --   step_way      the same of a step, if there is one
 use Rattle.std.specs.Prelude.{ℕ, ◌+◌, ◌*◌, ◌/◌, ◌%◌, Bool, false, cond, ◌&&◌, List, [], ◌∷◌, ℤ, pos, negsuc, ◌+ℤ◌, Some, None, Option, ◌==◌, nat_lt}
+use Rattle.std.specs.List.{find}
 use Rattle.cost.specs.declared.octile.Octile.{Octile}
 use Rattle.cost.specs.Octiles.{octile}
 use Rattle.sheet.specs.declared.steps.Offset.{Offset}
@@ -55,12 +56,8 @@ abbrev pub free_at : (ℕ → Bool) → Option ℕ → Bool
 free_at free None = false
 free_at free (Some a) = free a
 
-abbrev pub first_step : (Step → Bool) → List Step → Option Step
-first_step leads [] = None
-first_step leads (s ∷ ss) = cond (leads s) (Some s) (first_step leads ss)
-
 unfoldable pub step_to : ℕ → ℕ → ℕ → ℕ → Option Step
-step_to w h a b = first_step (λ s. is_place (neighbour_of w h a s.to) b) table
+step_to w h a b = find (λ s. is_place (neighbour_of w h a s.to) b) table
 
 abbrev pub step_between : (ℕ → Bool) → ℕ → ℕ → ℕ → ℕ → Option Step
 step_between free w h a b = cond (free a && free b) (step_to w h a b) None

@@ -1,8 +1,9 @@
 //! Which sheets are accepted.
 ghost use Rattle.std.specs.Prelude.{◌≡◌};
 ghost use Rattle.ground.specs.Refusals.{outcome};
-ghost use Rattle.sheet.specs.Sheets.{cell_count, known_cell, sheet_refusal};
+ghost use Rattle.sheet.specs.Sheets.{cell_count, sheet_refusal};
 
+use crate::cell::Cell;
 use ground::Refusal;
 
 const MOST_CELLS: usize = 256;
@@ -13,18 +14,14 @@ const MOST_CELLS: usize = 256;
 pub fn check_sheet(width: usize, height: usize, cells: &[u8]) -> Result<(), Refusal>
     ensures { result ≡ outcome (sheet_refusal width height cells.now) }
 {
-    let Some(count) = cells_of(width, height) else {
-        return Err(Refusal::SizeOutOfRange);
-    };
+    let count = cells_of(width, height).ok_or(Refusal::SizeOutOfRange)?;
     if cells.len() != count {
         return Err(Refusal::WrongLength);
     }
-    for (at, cell) in cells.iter().enumerate() {
-        if !is_cell(*cell) {
-            return Err(Refusal::CellUnknown { at });
-        }
+    match cells.iter().position(|byte| Cell::try_from(*byte).is_err()) {
+        Some(at) => Err(Refusal::CellUnknown { at }),
+        None => Ok(()),
     }
-    Ok(())
 }
 
 // The number of cells, where a sheet may have so many.
@@ -34,17 +31,7 @@ fn cells_of(width: usize, height: usize) -> Option<usize>
     if width == 0 || height == 0 {
         return None;
     }
-    let count = width.checked_mul(height)?;
-    if count > MOST_CELLS {
-        None
-    } else {
-        Some(count)
-    }
-}
-
-// Whether the byte says of a cell that it is free or blocked.
-fn is_cell(byte: u8) -> bool
-    ensures { result ≡ known_cell byte }
-{
-    byte == 0 || byte == 1
+    width
+        .checked_mul(height)
+        .filter(|count| *count <= MOST_CELLS)
 }

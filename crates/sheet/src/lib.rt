@@ -2,9 +2,11 @@
 #![tactic(auto)]
 
 ghost use Rattle.std.specs.Prelude.{◌≡◌, ◌*◌};
+ghost use Rattle.ground.specs.Marks.{size_in};
 
 use ground::places::Places;
 
+mod cell;
 mod check;
 mod make;
 mod steps;
@@ -19,5 +21,5 @@ pub struct Sheet {
     width: usize,
     height: usize,
     places: Places,
-    ghost filled: { places.count ≡ width * height },
+    ghost filled: { size_in places ≡ width * height },
 }

@@ -3,6 +3,7 @@ ghost use Rattle.std.specs.Prelude.{◌≡◌, ◌≤◌, length};
 ghost use Rattle.ground.specs.Marks.{size_in, shut_in};
 ghost use Rattle.sheet.specs.Sheets.{sheet_width, sheet_height, sheet_size, sheet_shut, sheet_chart, blocked_cell, blocked};
 
+use crate::cell::Cell;
 use crate::{Sheet, check_sheet};
 use ground::places::Places;
 
@@ -16,7 +17,7 @@ impl Sheet {
         ensures shut { shut_in result.places ≡ sheet_shut width height cells.now }
         ensures chart { sheet_chart result.width result.height ≡ sheet_chart (sheet_width width height cells.now) (sheet_height width height cells.now) }
     {
-        if let Err(_) = check_sheet(width, height, cells) {
+        if check_sheet(width, height, cells).is_err() {
             return Sheet {
                 width: 0,
                 height: 0,
@@ -50,5 +51,5 @@ fn places_of(cells: &[u8]) -> Places
 fn is_blocked(byte: u8) -> bool
     ensures { result ≡ blocked_cell byte }
 {
-    byte == 1
+    matches!(Cell::try_from(byte), Ok(Cell::Blocked))
 }

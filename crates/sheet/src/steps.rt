@@ -1,10 +1,10 @@
 //! The steps from a cell to the cells around it.
-ghost use Rattle.std.specs.Prelude.{◌≡◌, ◌<◌};
+ghost use Rattle.std.specs.Prelude.{◌≡◌};
 ghost use Rattle.cost.specs.Octiles.{way_o};
 ghost use Rattle.ground.specs.Grounds.{OnlyWayCosts};
 ghost use Rattle.ground.specs.Marks.{shut_in, free_in};
 ghost use Rattle.sheet.specs.Sheets.{sheet_chart};
-ghost use Rattle.sheet.specs.Steps.{table, moved, neighbour_of, is_place, free_at, step_to, step_between, past};
+ghost use Rattle.sheet.specs.Steps.{table, moved, neighbour_of, free_at, step_to, step_between, past};
 
 use crate::Sheet;
 use cost::octile::Octile;
@@ -42,6 +42,7 @@ const DOWN_LEFT: Offset = Offset { down: 1, right: -1 };
 
 const DOWN_RIGHT: Offset = Offset { down: 1, right: 1 };
 
+// A constant table, so that no step is worked out where a way is asked for.
 const STEPS: [Step; 8] = [
     Step {
         to: UP,
@@ -106,61 +107,40 @@ impl Sheet {
 
     // The step that leads from a place to another.
     fn step_to(&self, from: usize, to: usize) -> Option<Step>
-        requires { 0 < self.now.width }
         ensures { result ≡ step_to self.now.width self.now.height from to }
     {
-        for step in steps() {
-            if self.leads(from, step.to, to) {
-                return Some(step);
-            }
-        }
-        None
-    }
-
-    fn leads(&self, from: usize, by: Offset, to: usize) -> bool
-        requires { 0 < self.now.width }
-        ensures { result ≡ is_place (neighbour_of self.now.width self.now.height from by) to }
-    {
-        match self.neighbour(from, by) {
-            Some(place) => place == to,
-            None => false,
-        }
+        steps()
+            .iter()
+            .find(|step| self.neighbour(from, step.to) == Some(to))
+            .copied()
     }
 
     // The cost of a step, if it may be made: past a corner only where both cells beside it are free.
     fn step_cost(&self, from: usize, step: Step) -> Option<Octile>
-        requires { 0 < self.now.width }
         ensures { result ≡ past (λ by. free_at (free_in self.now.places) (neighbour_of self.now.width self.now.height from by)) step.beside }
     {
         match step.beside {
             None => Some(Octile::new(1, 0)),
-            Some((one, other)) => {
-                if self.is_free_at(from, one) && self.is_free_at(from, other) {
-                    Some(Octile::new(0, 1))
-                } else {
-                    None
-                }
+            Some((one, other)) if self.is_free_at(from, one) && self.is_free_at(from, other) => {
+                Some(Octile::new(0, 1))
             }
+            Some(_) => None,
         }
     }
 
     fn is_free_at(&self, from: usize, by: Offset) -> bool
-        requires { 0 < self.now.width }
         ensures { result ≡ free_at (free_in self.now.places) (neighbour_of self.now.width self.now.height from by) }
     {
-        match self.neighbour(from, by) {
-            Some(place) => self.places.is_free(place),
-            None => false,
-        }
+        self.neighbour(from, by)
+            .is_some_and(|place| self.places.is_free(place))
     }
 
     // The place that lies so far from another, if it is on the sheet.
     fn neighbour(&self, from: usize, by: Offset) -> Option<usize>
-        requires { 0 < self.now.width }
         ensures { result ≡ neighbour_of self.now.width self.now.height from by }
     {
-        let row = shifted(from / self.width, by.down, self.height)?;
-        let column = shifted(from % self.width, by.right, self.width)?;
+        let row = shifted(from.checked_div(self.width)?, by.down, self.height)?;
+        let column = shifted(from.checked_rem(self.width)?, by.right, self.width)?;
         Some(row * self.width + column)
     }
 }
@@ -169,8 +149,6 @@ impl Sheet {
 fn shifted(at: usize, by: i8, end: usize) -> Option<usize>
     ensures { result ≡ moved at by end }
 {
-    match at.checked_add_signed(by as isize) {
-        Some(to) if to < end => Some(to),
-        _ => None,
-    }
+    at.checked_add_signed(isize::from(by))
+        .filter(|to| *to < end)
 }

@@ -18,6 +18,7 @@ impl Ground for Sheet {
 
     ghost laws = { sheet-laws };
 
+    // Four calls go to the places, as in trail lists: one ground over any ways would need a trait of ways with laws of its own.
     /// The number of cells.
     fn size(&self) -> usize {
         self.places.size()

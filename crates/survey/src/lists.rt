@@ -48,8 +48,7 @@ fn survey_list(
     size: usize,
     records: &[Record<Seconds>],
 ) -> io::Result<()> {
-    print!(rt; "{name}: ")?;
-    report::answer(rt, check_list(size, records))?;
+    report::answer(rt, name, check_list(size, records))?;
     let ground = TrailList::new(size, records);
     report::counts(rt, &ground)?;
     report::ways(rt, &ground)

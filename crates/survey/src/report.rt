@@ -2,16 +2,21 @@
 use cost::Cost;
 use ground::counts::{free_places, ways_present};
 use ground::{Ground, Refusal};
+use std::fmt::Display;
 use std::io;
 
-/// Prints what a call answered, as the end of a line.
-pub fn answer(rt: &HostRuntime, answer: Result<(), Refusal>) -> io::Result<()> {
+/// Prints what was asked, and what was answered.
+pub fn answer<A: Display + Drop>(
+    rt: &HostRuntime,
+    asked: A,
+    answer: Result<(), Refusal>,
+) -> io::Result<()> {
     match answer {
-        Ok(()) => println!(rt; "accepted"),
+        Ok(()) => println!(rt; "{asked}: accepted"),
         Err(refusal) => {
             let number = refusal.number();
             let position = refusal.position();
-            println!(rt; "refused: number {number}, position {position}: {refusal}")
+            println!(rt; "{asked}: refused: number {number}, position {position}: {refusal}")
         }
     }
 }

@@ -1,5 +1,5 @@
 -- Shown: asking each record in turn, with those before it at hand, answers as the check of a list of records is defined.
-use Rattle.std.proofs.Common.{◌≡◌, ℕ, ◌+◌, ◌<◌, ◌≤◌, Bool, List, length, get_or, take, is_some, Some, None, Ok, Err, Option, sym, refl, ap, ◌∙◌, ⊎_elim}
+use Rattle.std.proofs.Common.{◌≡◌, ℕ, ◌+◌, ◌<◌, ◌≤◌, Bool, List, length, get_or, take, is_some, Some, None, Ok, Err, Option, sym, refl, ap, ◌∙◌, ⊎_elim, arith, length-take-le}
 use Rattle.std.proofs.lemmas.Option.{slice_get_read}
 use Rattle.std.proofs.lemmas.Bool.{cases_lt, cond-false, cond-true, le-ltb, lt-ltb, true≢false}
 use Rattle.ground.specs.declared.refusal.Refusal.{Refusal}
@@ -21,13 +21,15 @@ some_from_err (Some y) x e = cc
 pub record Checked {C : Type 0} (way : C → Bool) (size : ℕ) (rs : List (Record C)) (i : ℕ) : Type 0 where
   pub none : earliest (record_refusal way size rs) i ≡ None
   pub more : (k : ℕ) (r : Record C) → k < length rs → r ≡ get_or rs k r → earliest (record_refusal way size rs) k ≡ None →
-      Ok tt ≡ outcome (refuses way size k (take k rs) (Some r)) → earliest (record_refusal way size rs) (k + 1) ≡ None
+      Ok tt ≡ outcome (refuses way size (length (take k rs)) (take k rs) (Some r)) → earliest (record_refusal way size rs) (k + 1) ≡ None
   pub stop : (k : ℕ) (r : Record C) (x : Refusal) → k < length rs → r ≡ get_or rs k r → earliest (record_refusal way size rs) k ≡ None →
-      Err x ≡ outcome (refuses way size k (take k rs) (Some r)) → size ≤ 256 → length rs ≤ 1024 → Err x ≡ outcome (list_refusal way size rs)
+      Err x ≡ outcome (refuses way size (length (take k rs)) (take k rs) (Some r)) → size ≤ 256 → length rs ≤ 1024 → Err x ≡ outcome (list_refusal way size rs)
 
 module _ {C : Type 0} (way : C → Bool) (size : ℕ) (rs : List (Record C)) where
-  here : (k : ℕ) (r : Record C) → k < length rs → r ≡ get_or rs k r → record_refusal way size rs k ≡ refuses way size k (take k rs) (Some r)
-  here k r within read = ap (refuses way size k (take k rs)) (slice_get_read rs (length rs) k r refl within read)
+  here : (k : ℕ) (r : Record C) → k < length rs → r ≡ get_or rs k r → record_refusal way size rs k ≡ refuses way size (length (take k rs)) (take k rs) (Some r)
+  here k r within read =
+      ap (refuses way size k (take k rs)) (slice_get_read rs (length rs) k r refl within read)
+      ∙ ap (λ n. refuses way size n (take k rs) (Some r)) (sym (length-take-le k rs (omega arith)))
 
   pub checked_none : Checked way size rs 0
   checked_none = record {

@@ -1,6 +1,7 @@
 -- Shown: a trail list keeps the laws of grounds, whatever its records are.
 use Rattle.std.specs.Prelude.{◌≡◌, ℕ, Bool, true, false, not, ◌&&◌, ◌||◌, List, [], ◌∷◌, None, ◌==◌, nat_lt, refl}
 use Rattle.std.proofs.Common.{sym, ◌∙◌, inl, inr}
+use Rattle.std.proofs.lemmas.List.{get_or_past}
 use Rattle.std.proofs.lemmas.Bool.{and_left, and_right, cond-false, eq-eqb, le-ltb, ne_eqb, not_from_true}
 use Rattle.std.proofs.lemmas.Bool.Decides.{eqb_tells}
 use Rattle.ground.specs.declared.places.Places.{Places}
@@ -48,7 +49,7 @@ pub trail_laws : {C : Type 0} (way : C → Bool) (p : Places) (rs : List (Record
     GroundLaws (size_in p) (shut_in p) (trail_chart way (size_in p) rs)
 trail_laws way p rs = let n = size_in p in record {
   few = p.few;
-  shut-within = λ a h. and_left (nat_lt a n) _ (le-ltb a n h);
+  shut-within = λ a h. get_or_past p.shut.items a false h;
   alike = chart-alike way n rs;
   apart = λ s a. cond-false _ _ _ (and_left (not (a == a)) _ (not_from_true _ (eq-eqb a a refl)));
   closed = λ s a b h. impassable way n rs s a b (and_right (nat_lt a n) _ (not_from_true (s a) h));

@@ -1,5 +1,5 @@
 //! Checking a list of records.
-ghost use Rattle.std.specs.Prelude.{◌≡◌, Some};
+ghost use Rattle.std.specs.Prelude.{◌≡◌, length, Some};
 ghost use Rattle.ground.specs.Refusals.{outcome};
 ghost use Rattle.trails.specs.Trails.{refuses, list_refusal};
 
@@ -24,20 +24,20 @@ pub fn check_list<C: Cost>(size: usize, records: &[Record<C>]) -> Result<(), Ref
         return Err(Refusal::WrongLength);
     }
     for (at, record) in records.iter().enumerate() {
-        check_record(size, &records[..at], record, at)?;
+        check_record(size, &records[..at], record)?;
     }
     Ok(())
 }
 
-// Whether the record at `at` may stand after the earlier ones.
+// Whether the record may stand after the earlier ones.
 fn check_record<C: Cost>(
     size: usize,
     earlier: &[Record<C>],
     record: &Record<C>,
-    at: usize,
 ) -> Result<(), Refusal>
-    ensures { result ≡ outcome (refuses C.Cost.way size at earlier.now (Some «record».now)) }
+    ensures { result ≡ outcome (refuses C.Cost.way size (length earlier.now) earlier.now (Some «record».now)) }
 {
+    let at = earlier.len();
     if record.from >= size || record.to >= size {
         return Err(Refusal::RecordOffGround { at });
     }

@@ -18,10 +18,6 @@ impl<C> Record<C> {
 pub fn cost_between<C: Cost>(records: &[Record<C>], from: usize, to: usize) -> Option<C>
     ensures { result ≡ found records.now from to }
 {
-    for record in records {
-        if record.names(from, to) {
-            return Some(record.cost);
-        }
-    }
-    None
+    let named = records.iter().find(|record| record.names(from, to));
+    named.map(|record| record.cost)
 }

@@ -18,15 +18,13 @@ impl<'a, C: Cost> TrailList<'a, C> {
         ensures chart { trail_chart C.Cost.way (size_in result.places) result.records.now ≡ trail_chart C.Cost.way (list_size C.Cost.way size records.now) records.now }
         ensures accepted { list_refusal C.Cost.way size records.now ≡ None → ByRecords records.now (trail_chart C.Cost.way (size_in result.places) result.records.now) }
     {
-        match check_list(size, records) {
-            Ok(()) => TrailList {
-                places: Places::all_free(size),
-                records,
-            },
-            Err(_) => TrailList {
-                places: Places::all_free(0),
-                records,
-            },
+        let accepted = match check_list(size, records) {
+            Ok(()) => size,
+            Err(_) => 0,
+        };
+        TrailList {
+            places: Places::all_free(accepted),
+            records,
         }
     }
 }
@@ -42,6 +40,7 @@ impl<'a, C: Cost> Ground for TrailList<'a, C> {
 
     ghost laws = { λ g. trail_laws C.Cost.way g.places g.records.now };
 
+    // These four calls go to the places, here and in sheets: one ground over any ways would need a trait of ways with laws of its own.
     fn size(&self) -> usize {
         self.places.size()
     }
@@ -55,10 +54,7 @@ impl<'a, C: Cost> Ground for TrailList<'a, C> {
             return None;
         }
         // The records may be any, so the cost is tested here too.
-        match cost_between(self.records, from, to) {
-            Some(cost) if cost.is_way_cost() => Some(cost),
-            _ => None,
-        }
+        cost_between(self.records, from, to).filter(|cost| cost.is_way_cost())
     }
 
     fn shut(&mut self, place: usize) -> Result<(), Refusal> {

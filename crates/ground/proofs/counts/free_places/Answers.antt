@@ -1,21 +1,12 @@
-use Rattle.std.proofs.Common.{◌≡◌, ℕ, Bool, true, false, ltb, sym, ◌∙◌, arith}
-use Rattle.std.proofs.lemmas.Bool.{and_from, and_right, lt-ltb, not_from_true, not_from_false}
-use Rattle.ground.specs.Marks.{free_under}
-use Rattle.ground.proofs.Counting.{count_yes, count_no}
+use Rattle.std.proofs.Common.{not, ◌∙◌, arith, rules}
+use borrow.Author.Tests.{tests}
+use Rattle.std.proofs.lemmas.Iterator.{YieldsList-from_range}
+use Rattle.std.proofs.lemmas.Iterator.Consumers.{YieldsList-from_filter, count_from_yields_List}
+use Rattle.ground.proofs.Counting.{count_below, count_free}
 use Rattle.ground.proofs.counts.free_places.Goals as goal
-use Rattle.ground.proofs.counts.free_places.Goals.{then-not-is_shut, else-not-is_shut}
 
-pub loop-place-preserved : goal.loop-place-preserved
-loop-place-preserved g c =
-    let n : ℕ = g.G.Ground.size c.args.ground.now in
-    let s : ℕ → Bool = g.G.Ground.shuts c.args.ground.now in
-    let k : ℕ = c.loop-place.place in
-    let here : ltb k n ≡ true = lt-ltb k n (omega arith) in
-    elim c.if-not-is_shut.branch [
-      | then-not-is_shut w ↦
-          let unshut : s k ≡ false = sym c.is_shut.ensures ∙ w.if-not-is_shut.true in
-          (omega (arith, w.free-is), w.free-is ∙ count_yes (free_under n s) k _ c.loop-place.invariant.1 (and_from (ltb k n) _ here (not_from_false (s k) unshut)))
-      | else-not-is_shut w ↦
-          let shut : s k ≡ true = sym c.is_shut.ensures ∙ w.if-not-is_shut.false in
-          (omega (arith, w.free-is), w.free-is ∙ count_no (free_under n s) k _ c.loop-place.invariant.1 (and_right (ltb k n) _ (not_from_true (s k) shut)))
-    ]
+pub returns : goal.returns
+returns g c =
+    let s = g.G.Ground.shuts c.args.ground.now in
+    count_from_yields_List c.filter.result _ c.count.ensures.ran (YieldsList-from_filter _ (λ k. not (s k)) (YieldsList-from_range 0 c.size.result c.size.result (cc) (omega arith)) c.filter.ensures.closure (λ x b q k. search (rules, tests)))
+    ∙ (rw c.size.ensures (count_below (λ k. not (s k)) _ ∙ count_free s _))

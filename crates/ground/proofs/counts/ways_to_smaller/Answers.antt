@@ -1,15 +1,12 @@
-use Rattle.std.proofs.Common.{◌≡◌, ℕ, Bool, is_some, sym, ap, ◌∙◌, arith}
-use Rattle.ground.proofs.Counting.{count_yes, count_no}
+use Rattle.std.proofs.Common.{ℕ, is_some, ◌∙◌, arith, rules}
+use borrow.Author.Tests.{tests}
+use Rattle.std.proofs.lemmas.Iterator.{YieldsList-from_range}
+use Rattle.std.proofs.lemmas.Iterator.Consumers.{YieldsList-from_filter, count_from_yields_List}
+use Rattle.ground.proofs.Counting.{count_below}
 use Rattle.ground.proofs.counts.ways_to_smaller.Goals as goal
-use Rattle.ground.proofs.counts.ways_to_smaller.Goals.{then-is_some, else-is_some}
 
-pub loop-other-preserved : goal.loop-other-preserved
-loop-other-preserved g c =
-    let here = c.args.ground.now in
-    let p : ℕ → Bool = λ a. is_some (g.G.Ground.chart here (g.G.Ground.shuts here) a c.args.place) in
-    let k : ℕ = c.loop-other.other in
-    let e : c.is_some.result ≡ p k = c.is_some.ensures ∙ ap is_some c.way.ensures.is in
-    elim c.if-is_some.branch [
-      | then-is_some w ↦ (omega (arith, w.ways-is), w.ways-is ∙ count_yes p k _ c.loop-other.invariant.1 (sym e ∙ w.if-is_some.true))
-      | else-is_some w ↦ (omega (arith, w.ways-is), w.ways-is ∙ count_no p k _ c.loop-other.invariant.1 (sym e ∙ w.if-is_some.false))
-    ]
+pub returns : goal.returns
+returns g c =
+    let p = λ (a : ℕ). is_some (g.G.Ground.chart c.args.ground.now (g.G.Ground.shuts c.args.ground.now) a c.args.place) in
+    count_from_yields_List c.filter.result _ c.count.ensures.ran (YieldsList-from_filter _ p (YieldsList-from_range 0 c.args.place c.args.place (cc) (omega arith)) c.filter.ensures.closure (λ x b q k. search (rules, tests)))
+    ∙ count_below _ _

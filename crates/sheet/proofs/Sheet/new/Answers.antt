@@ -1,4 +1,5 @@
 use Rattle.std.proofs.Common.{◌≡◌, ◌*◌, true, cond, ◌&&◌, sym, ap, ◌∙◌}
+use Rattle.std.specs.Result.{is_err}
 use Rattle.sheet.specs.Sheets.{accepts, blocked, sheet_chart}
 use Rattle.sheet.proofs.Cells.{accepted, as_many}
 use Rattle.sheet.proofs.Sheet.new.Goals as goal
@@ -8,7 +9,7 @@ returns c =
     let w = c.args.width in
     let h = c.args.height in
     let cells = c.args.cells.now in
-    let a : accepts w h cells ≡ true = accepted w h cells _ c.in_default.ensures in
+    let a : accepts w h cells ≡ true = accepted w h cells (ap is_err (sym c.check_sheet.ensures) ∙ sym c.is_err.ensures.value ∙ c.if-is_err.false) in
     record {
       width = sym (ap (λ b. cond b w 0) a);
       height = sym (ap (λ b. cond b h 0) a);

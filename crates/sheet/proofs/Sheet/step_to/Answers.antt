@@ -1,30 +1,14 @@
-use Rattle.std.proofs.Common.{◌≡◌, Bool, List, get_or, drop, pos, Some, None, sym, refl, ap, ◌∙◌, arith}
+use Rattle.std.proofs.Common.{ap, ◌∙◌, rules}
+use borrow.Author.Tests.{tests}
+use Rattle.std.specs.List.{find}
+use Rattle.std.proofs.lemmas.Iterator.{YieldsList-from_slice}
+use Rattle.std.proofs.lemmas.Iterator.Search.{find_from_yields_List}
 use Rattle.sheet.specs.declared.steps.Step.{Step}
-use Rattle.sheet.specs.Steps.{step_to, table, first_step, is_place, neighbour_of}
-use Rattle.sheet.proofs.Moves.{first_hit, first_miss}
+use Rattle.sheet.specs.Steps.{step_to, is_place, neighbour_of}
 use Rattle.sheet.proofs.Sheet.step_to.Goals as goal
 
-pub loop-step-init : goal.loop-step-init
-unfolding step_to
-loop-step-init c = refl
-
-pub returns-then-leads : goal.returns-then-leads
-returns-then-leads c =
-    let at : List Step → Step = λ ss. get_or ss c.loop-step.step-index record { to = record { down = pos 0; right = pos 0 }; beside = None } in
-    let p : Step → Bool = λ s. is_place (neighbour_of c.args.self.now.width c.args.self.now.height c.args.from s.to) c.args.to in
-    let read : at c.steps-step-items.result ≡ at table = ap at c.steps-step-items.ensures in
-    let h : c.leads.result ≡ p (at table) = c.leads.ensures ∙ ap p read in
-    ap Some read ∙ sym (c.loop-step.invariant ∙ first_hit p table c.loop-step.step-index _ (omega arith) (sym h ∙ c.if-leads.true))
-
-pub loop-step-preserved : goal.loop-step-preserved
-loop-step-preserved c =
-    let at : List Step → Step = λ ss. get_or ss c.loop-step.step-index record { to = record { down = pos 0; right = pos 0 }; beside = None } in
-    let p : Step → Bool = λ s. is_place (neighbour_of c.args.self.now.width c.args.self.now.height c.args.from s.to) c.args.to in
-    let h : c.leads.result ≡ p (at table) = c.leads.ensures ∙ ap (λ ss. p (at ss)) c.steps-step-items.ensures in
-    c.loop-step.invariant ∙ first_miss p table c.loop-step.step-index _ (omega arith) (sym h ∙ c.if-leads.false)
-
 pub returns : goal.returns
+unfolding step_to
 returns c =
-    let p : Step → Bool = λ s. is_place (neighbour_of c.args.self.now.width c.args.self.now.height c.args.from s.to) c.args.to in
-    let e : c.loop-step.step-index ≡ 8 = omega arith in
-    sym (c.loop-step.invariant ∙ ap (λ n. first_step p (drop n table)) e)
+    let p = λ (s : Step). is_place (neighbour_of c.args.self.now.width c.args.self.now.height c.args.from s.to) c.args.to in
+    c.copied.ensures ∙ find_from_yields_List p _ _ c.find.result c.find.ensures.ran (YieldsList-from_slice c.steps.result (cc)) (λ x b q k. search (rules, tests)) ∙ ap (find p) c.steps.ensures

@@ -1,7 +1,5 @@
-use Rattle.std.proofs.Common.{◌≡◌, ℕ, ◌+◌, ◌≤◌, true, false, ◌&&◌, eqb, ltb, List, length, get_or, sym, ap, ◌∙◌, subst, ⊎_elim, arith}
-use mathlib.Core.Path.{fun_ext}
-use Rattle.std.proofs.lemmas.List.{get_or_past}
-use Rattle.std.proofs.lemmas.Bool.{and_left, le-ltb, lt-ltb, cases_lt}
+use Rattle.std.proofs.Common.{◌≡◌, ℕ, ◌+◌, true, false, ◌&&◌, ltb, length, sym, ap, ◌∙◌, subst, arith}
+use Rattle.std.proofs.lemmas.Bool.{and_left, le-ltb}
 use Rattle.ground.specs.declared.places.Places.{Places}
 use Rattle.ground.specs.Marks.{size_in, shut_in}
 use Rattle.sheet.specs.Sheets.{blocked}
@@ -29,15 +27,3 @@ loop-place-preserved c =
           let here : B i ≡ false = sym c.is_blocked.ensures ∙ w.if-is_blocked.false in
           subst Kept (sym w.places-is) (c.loop-place.invariant.0, λ k. c.loop-place.invariant.1 k ∙ none_at B i here k)
     ]
-
-no_others : (cells : List ℕ) (i k : ℕ) → length cells ≤ i → (ltb k i && blocked cells k) ≡ blocked cells k
-no_others cells i k l =
-    ⊎_elim (λ h. ap (λ b. b && blocked cells k) (lt-ltb k i h))
-    (λ h. let e : get_or cells k 0 ≡ 0 = get_or_past cells k 0 (omega arith) in and_left (ltb k i) _ (le-ltb k i h) ∙ sym (ap (λ n. eqb n 1) e))
-    (cases_lt k i)
-
-pub returns : goal.returns
-returns c = record {
-  size = c.loop-place.invariant.0;
-  shut = fun_ext (λ k. c.loop-place.invariant.1 k ∙ no_others c.args.cells.now c.loop-place.place k c.loop-place-test.false);
-}
