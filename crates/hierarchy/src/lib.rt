@@ -1,8 +1,10 @@
 //! What the planner means: walks, links, levelling, search, layout, answers and seasons. The definitions are in specs/.
 #![tactic(auto)]
 
+ghost use Rattle.std.specs.Prelude.{◌≡◌, false};
 ghost use Rattle.hierarchy.specs.Samples.{Samples, SeasonSamples};
 
+use cost::Cost;
 use ground::Refusal;
 
 pub mod levelled;
@@ -18,12 +20,40 @@ pub struct Shortcut<C> {
     pub cost: C,
 }
 
-/// What a search keeps of a place: whether it is settled, at what cost, and from which place it was reached.
+/// A shortcut from place 0 to itself at no cost. A list with room for more holds it past its last shortcut.
+impl<C: Cost> Default for Shortcut<C> {
+    ghost is_default = { λ shortcut. (shortcut.smaller ≡ 0) × (shortcut.larger ≡ 0) × (shortcut.middle ≡ 0) × (shortcut.cost ≡ C.zero) };
+
+    fn default() -> Self {
+        Shortcut {
+            smaller: 0,
+            larger: 0,
+            middle: 0,
+            cost: C::zero(),
+        }
+    }
+}
+
+/// What a search keeps of a place: whether it is settled, at what cost, and from which place it was reached. The mark is a field and no
+/// `Option` around the rest, since a lent table holds one record a place, whose cost and predecessor stand before it is settled.
 #[derive(Clone, Copy)]
 pub struct SearchRecord<C> {
     pub settled: bool,
     pub cost: C,
     pub predecessor: usize,
+}
+
+/// The record of a place that is not reached.
+impl<C: Cost> Default for SearchRecord<C> {
+    ghost is_default = { λ known. (known.settled ≡ false) × (known.cost ≡ C.zero) × (known.predecessor ≡ 0) };
+
+    fn default() -> Self {
+        SearchRecord {
+            settled: false,
+            cost: C::zero(),
+            predecessor: 0,
+        }
+    }
 }
 
 /// What an accepted route answers: its cost, how many places the search settled, and how many places the route has.

@@ -1,15 +1,15 @@
 -- Shown: once a shortcut comes last, its places have its number unless they were linked, and every way is kept.
-use Rattle.std.proofs.Common.{◌≡◌, ℕ, zero, suc, ◌+◌, ◌<◌, Bool, true, false, cond, ◌&&◌, ◌||◌, eqb, List, [], ◌∷◌, ◌++◌, length, take, set, refl, ap, ◌∙◌, arith}
-use Rattle.std.proofs.lemmas.List.{length-take-le, take_more_set}
+use Rattle.std.proofs.Common.{◌≡◌, ℕ, zero, suc, Bool, true, false, cond, ◌&&◌, ◌||◌, eqb, List, [], ◌∷◌, ◌++◌, length, refl, ap, ◌∙◌, arith}
 use Rattle.std.proofs.lemmas.Bool.Decides.{nat_tests}
 use Rattle.hierarchy.specs.declared.Shortcut.{Shortcut}
 use Rattle.hierarchy.specs.Books.{joins}
 use Rattle.levelling.specs.declared.book.Book.{Book}
+use Rattle.levelling.specs.declared.entries.Entries.{Entries}
 use Rattle.levelling.specs.declared.entry.Entry.{Entry}
 use Rattle.levelling.specs.declared.entry.Entry.TheVariants.{Apart, Way, Shortcut as By}
 use Rattle.levelling.specs.Entries.{number_between, entry_at, named, Indexed, or_by, entered}
 use Rattle.levelling.proofs.Numbers.{then_number, number_last}
-use Rattle.levelling.proofs.Pairs.{length-entered, entered_at}
+use Rattle.levelling.proofs.Pairs.{entered_at}
 use Rattle.levelling.proofs.Writing.{kept_in, entered_keeps}
 
 -- setting the same entry twice over
@@ -33,41 +33,24 @@ names_last (By k) (suc m) false n h = h
 joins-pairs : {C : Type 0} (s : Shortcut C) (a b : ℕ) → joins s a b ≡ ((eqb a s.smaller && eqb b s.larger) || (eqb a s.larger && eqb b s.smaller))
 joins-pairs s a b = grind (arith, nat_tests)
 
--- the entries of both ways round
-abbrev entered_both : {C : Type 0} → List (Entry C) → Shortcut C → ℕ → List (Entry C)
-entered_both entries s n = entered (entered entries s.smaller s.larger n) s.larger s.smaller n
-
-last_indexed : {C : Type 0} (entries : List (Entry C)) (l : List (Shortcut C)) (s : Shortcut C) (n : ℕ) → length entries ≡ 65536 → length l ≡ n →
-    Indexed entries l → Indexed (entered_both entries s n) (l ++ (s ∷ []))
-last_indexed entries l s n w counts inv a b h =
+last_indexed : {C : Type 0} (entries once : Entries C) (l : List (Shortcut C)) (s : Shortcut C) → once.cells ≡ entered entries.cells s.smaller s.larger (length l) →
+    Indexed entries.cells l → Indexed (entered once.cells s.larger s.smaller (length l)) (l ++ (s ∷ []))
+last_indexed entries once l s there inv a b h =
     let x = s.smaller in
     let y = s.larger in
-    let e = entry_at entries a b in
-    let once = entered_at entries x y n a b w h.0 h.1 in
-    let both = entered_at (entered entries x y n) y x n a b (length-entered entries x y n ∙ w) h.0 h.1 in
-    rw (both, once, twice e (eqb a x && eqb b y) (eqb a y && eqb b x) n, ← joins-pairs s a b, number_last l s a b, counts)
+    let n = length l in
+    let e = entry_at entries.cells a b in
+    let first = ap (λ c. entry_at c a b) there ∙ entered_at entries.cells x y n a b entries.long h.0 h.1 in
+    let both = entered_at once.cells y x n a b once.long h.0 h.1 in
+    rw (both, first, twice e (eqb a x && eqb b y) (eqb a y && eqb b x) n, ← joins-pairs s a b, number_last l s a b)
     (names_last e (number_between l a b) (joins s a b) n (inv a b h))
 
--- what a book with room holds once the shortcut has been written and both its pairs entered
-module _ {C : Type 0} (book : Book C) (s : Shortcut C) (room : book.count < 2048) where
-  pub counts : length (take book.count book.shortcuts) ≡ book.count
-  counts = length-take-le book.count book.shortcuts (omega arith)
+-- what a book holds once a shortcut comes last and both its pairs have been entered
+module _ {C : Type 0} (book : Book C) (s : Shortcut C) (once : Entries C) (both : List (Entry C))
+    (there : once.cells ≡ entered book.entries.cells s.smaller s.larger (length book.shortcuts.items)) (back : both ≡ entered once.cells s.larger s.smaller (length book.shortcuts.items)) where
+  pub keeps_ways : kept_in both ≡ kept_in book.entries.cells
+  keeps_ways =
+      ap kept_in back ∙ entered_keeps once s.larger s.smaller _ ∙ ap kept_in there ∙ entered_keeps book.entries s.smaller s.larger _
 
-  pub last_written : take (book.count + 1) (set book.shortcuts book.count s) ≡ take book.count book.shortcuts ++ (s ∷ [])
-  last_written = take_more_set book.shortcuts book.count s (omega arith)
-
-  module _ {once both : List (Entry C)} (there : once ≡ entered book.entries s.smaller s.larger book.count) (back : both ≡ entered once s.larger s.smaller book.count) where
-    pub as_many : length both ≡ 65536
-    as_many =
-        ap length back ∙ length-entered once s.larger s.smaller book.count ∙
-        ap length there ∙ length-entered book.entries s.smaller s.larger book.count ∙ book.sizes.1
-
-    pub keeps_ways : kept_in both ≡ kept_in book.entries
-    keeps_ways =
-        ap kept_in back ∙ entered_keeps once s.larger s.smaller book.count ∙
-        ap kept_in there ∙ entered_keeps book.entries s.smaller s.larger book.count
-
-    pub still_indexed : Indexed both (take (book.count + 1) (set book.shortcuts book.count s))
-    still_indexed =
-        rw (last_written, back, there)
-        (last_indexed book.entries (take book.count book.shortcuts) s book.count book.sizes.1 counts book.indexed)
+  pub still_indexed : Indexed both (book.shortcuts.items ++ (s ∷ []))
+  still_indexed = rw back (last_indexed book.entries once book.shortcuts.items s there book.indexed)

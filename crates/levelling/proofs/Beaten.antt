@@ -1,6 +1,5 @@
 -- Shown: a link is beaten by what a whole search tells of its end exactly when some walk beats it, and the marks say so.
-use Rattle.std.proofs.Common.{◌≡◌, ℕ, ◌+◌, ◌*◌, ◌<◌, ◌≤◌, Bool, true, false, ◌&&◌, ltb, List, length, set, is_some, Some, None, Decides, Option, sym, refl, ap, ◌∙◌, subst, ⊎_elim, arith, below_more}
-use Rattle.std.proofs.lemmas.List.{get_or-set_same, get_or-set_other}
+use Rattle.std.proofs.Common.{◌≡◌, ℕ, ◌<◌, Bool, true, false, ◌&&◌, ltb, List, [], get_or, is_some, Some, None, Decides, Option, sym, refl, ap, ◌∙◌, ⊎_elim}
 use Rattle.std.proofs.lemmas.Bool.{true≢false, both_ways, cases_Bool, and_parts, and_from, ltb-true, lt-ltb, cond-true, cond-false, cond_both}
 use Rattle.cost.specs.declared.Cost.{Ghosts as Costs}
 use Rattle.hierarchy.specs.declared.SearchRecord.{SearchRecord}
@@ -10,7 +9,7 @@ use Rattle.hierarchy.specs.Walks.{Walk, SetAside}
 use Rattle.hierarchy.specs.Books.{Book, link_among}
 use Rattle.levelling.specs.Reach.{Told}
 use Rattle.levelling.specs.Begun.{RowsWritten}
-use Rattle.levelling.specs.Beaten.{mark_at, beaten, leaves, MarksBeaten, MarksKept, BeatenAside}
+use Rattle.levelling.specs.Beaten.{beaten, leaves, MarksBeaten, BeatenAside}
 use Rattle.levelling.proofs.Linked.{link_ends}
 
 module _ {C : Type 0} (k : Costs C) (step : ℕ → ℕ → Option C) (a b : ℕ) (known : SearchRecord C) (told : Told k step a k.over b known) where
@@ -32,22 +31,8 @@ module _ {C : Type 0} (k : Costs C) (step : ℕ → ℕ → Option C) (a b : ℕ
   pub beaten_decides : (mark : Bool) → mark ≡ beaten k (step a b) known → Decides mark (SetAside (kind_of k) step a b)
   beaten_decides mark e = (λ h. beaten_aside (step a b) refl (sym e ∙ h), λ s. e ∙ aside_beaten (step a b) refl s)
 
-module _ (a i : ℕ) (hi : i < 256) (marks : List Bool) (m : Bool) (w : a * 256 + i < length marks) where
-  pub marks_more : (f : ℕ → Bool) → ((b : ℕ) → b < i → mark_at marks a b ≡ f b) → m ≡ f i → (b : ℕ) → b < i + 1 → mark_at (set marks (a * 256 + i) m) a b ≡ f b
-  marks_more f so_far e = below_more (λ b. mark_at (set marks (a * 256 + i) m) a b ≡ f b) i
-      (λ b h. get_or-set_other marks (a * 256 + i) (a * 256 + b) m false (λ s. omega arith) ∙ so_far b h)
-      (get_or-set_same marks (a * 256 + i) m false w ∙ e)
-
-  pub still_kept : (old : List Bool) → MarksKept a old marks → MarksKept a old (set marks (a * 256 + i) m)
-  still_kept old so_far x y n h = get_or-set_other marks (a * 256 + i) (x * 256 + y) m false (λ s. n (omega arith)) ∙ so_far x y n h
-
--- the marks of one row more
-pub rows_more : {K : Kind} (n : ℕ) (book : Book K) → n ≤ 256 → (i : ℕ) (old new : List Bool) → ((a : ℕ) → a < i → MarksBeaten n book a old) →
-    MarksBeaten n book i new → MarksKept i old new → (a : ℕ) → a < i + 1 → MarksBeaten n book a new
-rows_more {K} n book few i old new so_far row kept = below_more (λ a. MarksBeaten n book a new) i
-    (λ a h b w. subst (λ t. Decides t (SetAside K (link_among n book) a b)) (sym (kept a b (λ e. omega arith) (omega arith))) (so_far a h b w)) row
-
-module _ {K : Kind} (n : ℕ) (old new : Book K) (marks : List Bool) (told : (a : ℕ) → a < n → MarksBeaten n old a marks) (left : RowsWritten (leaves marks) n n old new) where
+module _ {K : Kind} (n : ℕ) (old new : Book K) (rows : List (List Bool)) (told : (a : ℕ) → a < n → MarksBeaten n old a (get_or rows a []))
+    (left : RowsWritten (λ a. leaves (get_or rows a [])) n n old new) where
   abbrev Beats : ℕ → ℕ → Type 0
   Beats a b = SetAside K (link_among n old) a b
 
@@ -58,13 +43,13 @@ module _ {K : Kind} (n : ℕ) (old new : Book K) (marks : List Bool) (told : (a 
   gone a b s =
       let on = beats_on a b s in
       left.ways a b ∙ cond-true _ _ _ (and_from (ltb a n) _ (lt-ltb a n on.0) (lt-ltb b n on.1))
-      ∙ cond-true (mark_at marks a b) None (old.kept a b) ((told a on.0 b on.1).1 s)
+      ∙ cond-true (get_or (get_or rows a []) b false) None (old.kept a b) ((told a on.0 b on.1).1 s)
 
   stays : (a b : ℕ) → (Beats a b → ⊥) → new.kept a b ≡ old.kept a b
-  stays a b s = left.ways a b ∙ cond_both (ltb a n && ltb b n) (leaves marks a b (old.kept a b)) (old.kept a b) (λ p. p ≡ old.kept a b)
+  stays a b s = left.ways a b ∙ cond_both (ltb a n && ltb b n) (leaves (get_or rows a []) b (old.kept a b)) (old.kept a b) (λ p. p ≡ old.kept a b)
       (λ e. let on = and_parts (ltb a n) _ e in
-      cond-false (mark_at marks a b) None (old.kept a b)
-      (⊎_elim (λ m. absurd (s ((told a (ltb-true a n on.0) b (ltb-true b n on.1)).0 m))) (λ m. m) (cases_Bool (mark_at marks a b)))) (λ e. refl)
+      cond-false (get_or (get_or rows a []) b false) None (old.kept a b)
+      (⊎_elim (λ m. absurd (s ((told a (ltb-true a n on.0) b (ltb-true b n on.1)).0 m))) (λ m. m) (cases_Bool (get_or (get_or rows a []) b false)))) (λ e. refl)
 
   pub beaten_left : BeatenAside n old new
   beaten_left = record { beaten = gone; unbeaten = stays; levels = left.levels; shortcuts = left.shortcuts }

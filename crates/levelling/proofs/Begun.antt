@@ -1,5 +1,5 @@
 -- Shown: what a book holds as its levels and ways are entered, and as marked ways are set aside.
-use Rattle.std.proofs.Common.{◌≡◌, ℕ, ◌+◌, ◌<◌, Bool, true, false, cond, ◌&&◌, eqb, ltb, List, [], length, Some, None, sym, ap, ◌∙◌, inl, inr, arith}
+use Rattle.std.proofs.Common.{◌≡◌, ℕ, ◌+◌, ◌<◌, Bool, true, false, cond, ◌&&◌, eqb, ltb, List, [], length, get_or, Some, None, sym, ap, ◌∙◌, inl, inr, arith}
 use Rattle.std.proofs.lemmas.Bool.{lt-ltb, eq-eqb, and_from, cond-true, cond-false}
 use Rattle.std.proofs.lemmas.Bool.Decides.{eqb_tells}
 use Rattle.ground.specs.Earliest.{or_else}
@@ -7,7 +7,7 @@ use Rattle.hierarchy.specs.Kinds.{Kind, Price}
 use Rattle.hierarchy.specs.Books.{Book}
 use Rattle.levelling.specs.Meaning.{put_price, with_level, with_way, without_way}
 use Rattle.levelling.specs.Begun.{RowWritten, LevelsEntered, enters}
-use Rattle.levelling.specs.Beaten.{mark_at, leaves}
+use Rattle.levelling.specs.Beaten.{leaves}
 use Rattle.levelling.proofs.Rewriting.{ltb_next, row_more, row_skip}
 
 module _ {K : Kind} (a i : ℕ) (ha : a < 256) (hi : i < 256) (old mid : Book K) where
@@ -22,11 +22,11 @@ module _ {K : Kind} (a i : ℕ) (ha : a < 256) (hi : i < 256) (old mid : Book K)
     shortcuts = mid.shortcuts;
   }))
 
-  pub way_left : (marks : List Bool) → mark_at marks a i ≡ true → mid.shortcuts ≡ [] → RowWritten (leaves marks a) i a old mid →
-      (new : Book K) → new ≡ without_way a i mid → RowWritten (leaves marks a) (i + 1) a old new
-  way_left marks e none so_far new made = row_more (leaves marks a) a old i mid so_far new (made ∙ (λ j. record {
+  pub way_left : (marks : List Bool) → get_or marks i false ≡ true → mid.shortcuts ≡ [] → RowWritten (leaves marks) i a old mid →
+      (new : Book K) → new ≡ without_way a i mid → RowWritten (leaves marks) (i + 1) a old new
+  way_left marks e none so_far new made = row_more (leaves marks) a old i mid so_far new (made ∙ (λ j. record {
     level = mid.level;
-    kept = (cond-true _ (put_price mid.kept a i None) mid.kept (and_from _ _ (eq-eqb _ 0 (ap length none)) near) ∙ ap (put_price mid.kept a i) (sym (cond-true (mark_at marks a i) None (mid.kept a i) e))) j;
+    kept = (cond-true _ (put_price mid.kept a i None) mid.kept (and_from _ _ (eq-eqb _ 0 (ap length none)) near) ∙ ap (put_price mid.kept a i) (sym (cond-true (get_or marks i false) None (mid.kept a i) e))) j;
     shortcuts = mid.shortcuts;
   }))
 
@@ -34,8 +34,8 @@ module _ {K : Kind} (a i : ℕ) (old mid : Book K) where
   pub none_entered : (way : ℕ → ℕ → Price K) → way a i ≡ None → RowWritten (enters way a) i a old mid → RowWritten (enters way a) (i + 1) a old mid
   none_entered way e so_far = row_skip (enters way a) a old i mid so_far (ap (λ o. or_else o (mid.kept a i)) e)
 
-  pub none_left : (marks : List Bool) → mark_at marks a i ≡ false → RowWritten (leaves marks a) i a old mid → RowWritten (leaves marks a) (i + 1) a old mid
-  none_left marks e so_far = row_skip (leaves marks a) a old i mid so_far (cond-false (mark_at marks a i) None (mid.kept a i) e)
+  pub none_left : (marks : List Bool) → get_or marks i false ≡ false → RowWritten (leaves marks) i a old mid → RowWritten (leaves marks) (i + 1) a old mid
+  none_left marks e so_far = row_skip (leaves marks) a old i mid so_far (cond-false (get_or marks i false) None (mid.kept a i) e)
 
 pub level-entered : {K : Kind} (shut : ℕ → Bool) (i level : ℕ) → i < 256 → (old mid : Book K) → LevelsEntered i shut old mid → level ≡ cond (shut i) 0 1 →
     (new : Book K) → new ≡ with_level i level mid → LevelsEntered (i + 1) shut old new

@@ -1,4 +1,4 @@
--- Shown: a book of small costs fits memory.
+-- Shown: a book of small costs fits memory. Costs have s bytes and are aligned to a.
 use Rattle.std.proofs.Common.{ℕ, ◌+◌, ◌-◌, ◌*◌, ◌%◌, ◌^◌, ◌<◌, ◌≤◌, max, arith}
 use native.Mathlib.Nat.{mod-le}
 use prog.Memory.{up}
@@ -7,23 +7,51 @@ use prog.Memory.{up}
 pub up_le : (k e b : ℕ) → k ≤ b → up k e ≤ e + b
 up_le k e b h = let m = mod-le (k - e % k) k in omega arith
 
--- costs of s bytes that are aligned to a
+module _ (a s : ℕ) where
+  -- what an entry is aligned to, and how many bytes all of them take
+  abbrev entry : ℕ
+  entry = max 1 (max (max a 1) 2)
+
+  abbrev entries : ℕ
+  entries = up (max entry 1) (up entry 0 + 65536 * up entry (max 1 (max (up a 1 + s) 4)))
+
+  -- what a shortcut is aligned to, and how many bytes a list of 2,048 takes
+  abbrev shortcut : ℕ
+  shortcut = max 8 (max 8 (max 8 (max a 1)))
+
+  abbrev pub list : ℕ
+  list = max (max shortcut 1) 8
+
+  abbrev pub shortcuts : ℕ
+  shortcuts = up list (up 1 (up 8 (up (max shortcut 1) 0 + up (max shortcut 1) (up shortcut 0 + 2048 * up shortcut (up a 24 + s))) + 8) + 0)
+
+  module _ (h : a ≤ 16) (k : s < 2 ^ 32) where
+    entries_few : entries < 2 ^ 50
+    entries_few =
+        let one = up_le a 1 16 h in
+        let start = up_le entry 0 16 (omega arith) in
+        let each = up_le entry (max 1 (max (up a 1 + s) 4)) 16 (omega arith) in
+        let all = up_le (max entry 1) (up entry 0 + 65536 * up entry (max 1 (max (up a 1 + s) 4))) 16 (omega arith) in
+        omega arith
+
+    pub shortcuts_few : shortcuts < 2 ^ 50
+    shortcuts_few =
+        let cost = up_le a 24 16 h in
+        let start = up_le shortcut 0 16 (omega arith) in
+        let each = up_le shortcut (up a 24 + s) 16 (omega arith) in
+        let cells = up_le (max shortcut 1) (up shortcut 0 + 2048 * up shortcut (up a 24 + s)) 16 (omega arith) in
+        let first = up_le (max shortcut 1) 0 16 (omega arith) in
+        let length = up_le 8 (up (max shortcut 1) 0 + up (max shortcut 1) (up shortcut 0 + 2048 * up shortcut (up a 24 + s))) 16 (omega arith) in
+        let none = up_le 1 (up 8 (up (max shortcut 1) 0 + up (max shortcut 1) (up shortcut 0 + 2048 * up shortcut (up a 24 + s))) + 8) 16 (omega arith) in
+        let all = up_le list (up 1 (up 8 (up (max shortcut 1) 0 + up (max shortcut 1) (up shortcut 0 + 2048 * up shortcut (up a 24 + s))) + 8) + 0) 16 (omega arith) in
+        omega arith
+
 pub book_fits : (a s : ℕ) → a ≤ 16 → s < 2 ^ 32 →
-    let e = max 1 (max (max a 1) 2) in
-    let b = max 8 (max 8 (max 8 (max a 1))) in
-    up (max 1 (max e (max 8 (max b 1)))) (up b (up 8 (up e 256 + 65536 * up e (max 1 (max (up a 1 + s) 4))) + 8) + 2048 * up b (up a 24 + s)) < 9223372036854775808
+    up (max 1 (max (max (entry a s) 1) (max (list a s) 1))) (up (list a s) (up (max (entry a s) 1) 256 + entries a s) + shortcuts a s) < 9223372036854775808
 book_fits a s h k =
-    let e = max 1 (max (max a 1) 2) in
-    let b = max 8 (max 8 (max 8 (max a 1))) in
-    let he : e ≤ 16 = omega arith in
-    let hb : b ≤ 16 = omega arith in
-    let ht : max 1 (max e (max 8 (max b 1))) ≤ 16 = omega arith in
-    let entry = up_le a 1 16 h in
-    let row = up_le e (max 1 (max (up a 1 + s) 4)) 16 he in
-    let levels = up_le e 256 16 he in
-    let shortcut = up_le b (up a 24 + s) 16 hb in
-    let cost = up_le a 24 16 h in
-    let entries = up_le 8 (up e 256 + 65536 * up e (max 1 (max (up a 1 + s) 4))) 16 (omega arith) in
-    let count = up_le b (up 8 (up e 256 + 65536 * up e (max 1 (max (up a 1 + s) 4))) + 8) 16 hb in
-    let whole = up_le (max 1 (max e (max 8 (max b 1)))) (up b (up 8 (up e 256 + 65536 * up e (max 1 (max (up a 1 + s) 4))) + 8) + 2048 * up b (up a 24 + s)) 16 ht in
+    let few = entries_few a s h k in
+    let short = shortcuts_few a s h k in
+    let levels = up_le (max (entry a s) 1) 256 16 (omega arith) in
+    let middle = up_le (list a s) (up (max (entry a s) 1) 256 + entries a s) 16 (omega arith) in
+    let whole = up_le (max 1 (max (max (entry a s) 1) (max (list a s) 1))) (up (list a s) (up (max (entry a s) 1) 256 + entries a s) + shortcuts a s) 16 (omega arith) in
     omega arith

@@ -25,9 +25,6 @@ module _ {K : Kind} (i : ℕ) (old : Book K) where
   same_levels : (f g : ℕ → ℕ) → ((x : ℕ) → f x ≡ g x) → with_levels f old ≡ with_levels g old
   same_levels f g e = λ j. record { level = fun_ext e j; kept = old.kept; shortcuts = old.shortcuts }
 
-  pub none_raised : RaisedTo 0 old
-  none_raised = same_levels old.level (part 0) (λ x. sym (cond-false (ltb x 0) _ _ (le-ltb x 0 (omega arith))))
-
   module _ (p : ℕ) (now : Book K) (so_far : RaisedTo p now) where
     at_place : now.level p ≡ old.level p
     at_place = ap (λ b. b.level p) so_far ∙ cond-false (ltb p p) _ _ (le-ltb p p (omega arith))

@@ -1,22 +1,21 @@
 -- Shown: an entry that names the earliest shortcut tells the halves of the link by the first n shortcuts.
 --   below_n  a number counted from 1, if it is one of the first n
 --   told     the halves that an entry tells
-use Rattle.std.proofs.Common.{◌≡◌, ℕ, zero, suc, ◌+◌, ◌*◌, ◌<◌, ◌≤◌, true, false, cond, ◌&&◌, ltb, ◌⊎◌, List, [], ◌∷◌, length, get_or, take, is_some, Some, None, Option, sym, refl, ap, ◌∙◌, inl, inr, ⊎_elim, arith, length-take}
-use Rattle.std.proofs.lemmas.Bool.{cases_lt, lt-ltb, le-ltb, and_left, and_right}
-use Rattle.std.proofs.lemmas.List.{get_or_default}
-use Rattle.std.specs.List.{slice_get}
+use Rattle.std.proofs.Common.{◌≡◌, ℕ, ◌<◌, ◌≤◌, zero, suc, true, false, cond, ltb, List, [], ◌∷◌, take, is_some, None, Option, sym, refl, ap, ◌∙◌, inl, inr, arith}
+use Rattle.std.proofs.lemmas.Bool.{cases_lt, lt-ltb, le-ltb}
 use Rattle.cost.specs.declared.Cost.{Ghosts as Costs}
 use Rattle.hierarchy.specs.declared.Shortcut.{Shortcut}
-use Rattle.hierarchy.specs.Kinds.{Kind}
-use Rattle.hierarchy.specs.Books.{Book as Meant, joins}
+use Rattle.hierarchy.specs.Books.{joins}
 use Rattle.levelling.specs.declared.book.Book.{Book}
 use Rattle.levelling.specs.declared.entry.Entry.{Entry}
 use Rattle.levelling.specs.declared.entry.Entry.TheVariants.{Apart, Way, Shortcut as By}
 use Rattle.levelling.specs.declared.book.halves.Halves.{Halves}
-use Rattle.levelling.specs.Entries.{next, named, number_between, entry_at}
+use Rattle.levelling.specs.Entries.{next, named, number_between, entry_at, entry_between}
 use Rattle.levelling.specs.Meaning.{way_in, meaning}
+use Rattle.std.specs.List.{slice_get}
+use Rattle.std.specs.Option.{option_map}
 use Rattle.levelling.specs.Halves.{halved, halves_at, halves_before}
-use Rattle.levelling.proofs.Numbers.{number_within}
+use Rattle.levelling.proofs.Pairs.{both_tell}
 
 abbrev pub below_n : ℕ → ℕ → ℕ
 below_n n zero = 0
@@ -55,36 +54,27 @@ entry_tells l n a b Apart e = sym (ap (halves_at l) (number_first n l a b ∙ ap
 entry_tells l n a b (Way c) e = refl
 entry_tells l n a b (By k) e = sym (ap (halves_at l) (number_first n l a b ∙ ap (below_n n) (sym e)) ∙ at_below l n k)
 
-pub nth_taken : {A : Type 0} (n k : ℕ) (l : List A) (d : A) → k < n → n ≤ length l → slice_get (take n l) k ≡ Some (get_or l k d)
-nth_taken zero k l d h w = absurd (omega arith)
-nth_taken (suc n) k [] d h w = absurd (omega arith)
-nth_taken (suc n) zero (x ∷ l) d h w = refl
-nth_taken (suc n) (suc k) (x ∷ l) d h w = nth_taken n k l d (omega arith) (omega arith)
+-- an entry that is no shortcut tells no halves
+pub tells_none : {C : Type 0} (l : List (Shortcut C)) (n : ℕ) (entry : Entry C) → ((k : ℕ) → entry ≡ By k → ⊥) → None ≡ told l n entry
+tells_none l n Apart other = refl
+tells_none l n (Way c) other = refl
+tells_none l n (By k) other = absurd (other k refl)
 
-pub halves_taken : {C : Type 0} (count n k : ℕ) (l : List (Shortcut C)) (d : Shortcut C) → k < count → count ≤ length l → k < n →
-    Some (halved k (get_or l k d)) ≡ cond (ltb k n) (halves_at (take count l) (suc k)) None
-halves_taken count n k l d h w b = rw (lt-ltb k n b, nth_taken count k l d h w)
+-- what is read of a book between two places
+pub between_tells : {C : Type 0} (k : Costs C) (book : Book C) (a b n : ℕ) (entry : Entry C) → entry ≡ entry_between book.entries.cells a b →
+    told book.shortcuts.items n entry ≡ halves_before (meaning k book) n a b
+between_tells k book a b n entry is = rw is (elim (both_tell a b) [
+  | inl h ↦ rw h.0 (entry_tells book.shortcuts.items n a b (entry_at book.entries.cells a b) (book.indexed a b h.1))
+  | inr h ↦ rw h.0
+])
 
-pub far_apart : {K : Kind} (book : Meant K) (n a b : ℕ) → (256 ≤ a) ⊎ (256 ≤ b) → None ≡ halves_before book n a b
-far_apart book n a b h = rw (go (⊎_elim (λ x. inl (le-ltb a 256 x)) (λ x. inr (le-ltb b 256 x)) h))
-  where
-    go : (ltb a 256 ≡ false) ⊎ (ltb b 256 ≡ false) → (ltb a 256 && ltb b 256) ≡ false
-    go (inl e) = and_left _ _ e
-    go (inr e) = and_right _ _ e
+-- an entry that names shortcut j, by j as it was widened: no halves where that is not one of the first n, and else those of the shortcut
+module _ {C : Type 0} (k : Costs C) (book : Book C) (a b n : ℕ) (entry : Entry C) (is : entry ≡ entry_between book.entries.cells a b) (j m : ℕ) (by : entry ≡ By j) (wide : m ≡ j) where
+  told_by : told book.shortcuts.items n (By m) ≡ halves_before (meaning k book) n a b
+  told_by = ap (λ i. told book.shortcuts.items n (By i)) wide ∙ between_tells k book a b n _ (sym by ∙ is)
 
--- what is read of a book at a pair of places below 256
-module _ {C : Type 0} (k : Costs C) (book : Book C) (a b : ℕ) (h : a < 256) (w : b < 256) (d entry : Entry C) (r : a * 256 + b < length book.entries)
-    (read : get_or book.entries (a * 256 + b) d ≡ entry) where
-  at_entry : entry_at book.entries a b ≡ entry
-  at_entry = get_or_default book.entries (a * 256 + b) Apart d r ∙ read
+  pub told_late : n ≤ m → None ≡ halves_before (meaning k book) n a b
+  told_late late = rw (le-ltb m n late) at told_by
 
-  names : named entry (number_between (take book.count book.shortcuts) a b) ≡ number_between (take book.count book.shortcuts) a b
-  names = rw (sym at_entry) (book.indexed a b (h, w))
-
-  pub near_tells : (n : ℕ) → told (take book.count book.shortcuts) n entry ≡ halves_before (meaning k book) n a b
-  near_tells n = rw (lt-ltb a 256 h, lt-ltb b 256 w, at_entry) (entry_tells _ n a b entry names)
-
-  pub named-within : (j : ℕ) → entry ≡ By j → j < book.count
-  named-within j e =
-      let is : suc j ≡ number_between (take book.count book.shortcuts) a b = ap (λ t. named t (number_between (take book.count book.shortcuts) a b)) (sym e) ∙ names in
-      omega (arith, number_within (take book.count book.shortcuts) a b, length-take book.count book.shortcuts)
+  pub told_early : (found : Option (Shortcut C)) → found ≡ slice_get book.shortcuts.items m → m < n → option_map (halved m) found ≡ halves_before (meaning k book) n a b
+  told_early found f early = ap (option_map (halved m)) f ∙ (rw (lt-ltb m n early) at told_by)

@@ -20,4 +20,5 @@ pub mod Collecting
 pub mod AppendingAll
 pub mod Visiting
 pub mod FitsNeeded
+pub mod FitsRecords
 pub mod Going

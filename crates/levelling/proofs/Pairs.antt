@@ -1,11 +1,11 @@
 -- Shown: what the entry of each pair is once the entry of one pair is set.
-use Rattle.std.proofs.Common.{◌≡◌, ℕ, ◌+◌, ◌*◌, ◌<◌, true, false, cond, ◌&&◌, eqb, ltb, ◌⊎◌, List, length, set, refl, ◌∙◌, inl, inr, arith, length-set}
-use Rattle.std.proofs.lemmas.List.{get_or-set_same, get_or-set_other, set-get_or}
+use Rattle.std.proofs.Common.{◌≡◌, ℕ, ◌+◌, ◌*◌, ◌<◌, true, false, cond, ◌&&◌, eqb, ltb, ◌⊎◌, List, length, set, ◌∙◌, inl, inr, arith}
+use Rattle.std.proofs.lemmas.List.{get_or-set_same, get_or-set_other}
 use Rattle.std.proofs.lemmas.Bool.Decides.{eqb_tells}
 use Rattle.std.proofs.lemmas.Bool.{lt-ltb, le-ltb, cases_lt, and_from, and_left, and_right}
 use Rattle.levelling.specs.declared.entry.Entry.{Entry}
-use Rattle.levelling.specs.declared.entry.Entry.TheVariants.{Apart, Way, Shortcut as By}
-use Rattle.levelling.specs.Entries.{entry_at, or_by, entered}
+use Rattle.levelling.specs.declared.entry.Entry.TheVariants.{Apart}
+use Rattle.levelling.specs.Entries.{entry_at, or_by, with_entry, entered}
 
 -- both places are below 256, or one is not
 pub both_tell : (x y : ℕ) → (((ltb x 256 && ltb y 256) ≡ true) × ((x < 256) × (y < 256))) ⊎ (((ltb x 256 && ltb y 256) ≡ false) × ((x < 256) × (y < 256) → ⊥))
@@ -27,38 +27,25 @@ pair_tells a b x y = elim (eqb_tells a x) [
   | inr p ↦ inr (and_left _ _ p.0, λ h. p.1 h.0)
 ]
 
--- what is linked stays
-or_by_linked : {C : Type 0} (e : Entry C) (k : ℕ) → (e ≡ Apart → ⊥) → or_by e k ≡ e
-or_by_linked Apart k h = absurd (h refl)
-or_by_linked (Way c) k h = refl
-or_by_linked (By j) k h = refl
-
+-- what is entered at a pair of places that are not both below 256 is lost, and nothing else changes than that pair
 module _ {C : Type 0} (entries : List (Entry C)) where
-  pub set_at : (v : Entry C) (x y a b : ℕ) → y < 256 → b < 256 → x * 256 + y < length entries →
+  set_at : (v : Entry C) (x y a b : ℕ) → y < 256 → b < 256 → x * 256 + y < length entries →
       entry_at (set entries (x * 256 + y) v) a b ≡ cond (eqb a x && eqb b y) v (entry_at entries a b)
   set_at v x y a b hy hb w = elim (pair_tells a b x y) [
     | inl p ↦ rw (p.0, p.1.0, p.1.1) (get_or-set_same entries (x * 256 + y) v Apart w)
     | inr p ↦ rw p.0 (get_or-set_other entries (x * 256 + y) (a * 256 + b) v Apart (λ e. p.1 (omega arith, omega arith)))
   ]
 
-  pub length-entered : (x y k : ℕ) → length (entered entries x y k) ≡ length entries
-  length-entered x y k =
-      elim (ltb x 256 && ltb y 256) as (λ t. length (cond t (set entries (x * 256 + y) (or_by (entry_at entries x y) k)) entries) ≡ length entries)
-      [ true ↦ length-set entries _ _ | false ↦ refl ]
-
-  pub entered_linked : (x y k : ℕ) → (entry_at entries x y ≡ Apart → ⊥) → entered entries x y k ≡ entries
-  entered_linked x y k h =
-      elim (ltb x 256 && ltb y 256) as (λ t. cond t (set entries (x * 256 + y) (or_by (entry_at entries x y) k)) entries ≡ entries)
-      [ true ↦ rw (or_by_linked (entry_at entries x y) k h) (set-get_or entries (x * 256 + y) Apart) | false ↦ refl ]
-
-  -- a pair that is not below 256 has no entry
-  pub entered_at : (x y k a b : ℕ) → length entries ≡ 65536 → a < 256 → b < 256 →
-      entry_at (entered entries x y k) a b ≡ cond (eqb a x && eqb b y) (or_by (entry_at entries a b) k) (entry_at entries a b)
-  entered_at x y k a b w ha hb = elim (both_tell x y) [
-    | inl h ↦ rw h.0 (set_at (or_by (entry_at entries x y) k) x y a b h.1.1 hb (omega arith) ∙ here)
+  pub with_entry_at : (v : Entry C) (x y a b : ℕ) → length entries ≡ 65536 → a < 256 → b < 256 →
+      entry_at (with_entry entries x y v) a b ≡ cond (eqb a x && eqb b y) v (entry_at entries a b)
+  with_entry_at v x y a b w ha hb = elim (both_tell x y) [
+    | inl h ↦ rw h.0 (set_at v x y a b h.1.1 hb (omega arith))
     | inr h ↦ elim (pair_tells a b x y) [ inl p ↦ absurd (h.1 (omega arith, omega arith)) | inr p ↦ rw (h.0, p.0) ]
   ]
-    where
-      here : cond (eqb a x && eqb b y) (or_by (entry_at entries x y) k) (entry_at entries a b) ≡
-          cond (eqb a x && eqb b y) (or_by (entry_at entries a b) k) (entry_at entries a b)
-      here = elim (pair_tells a b x y) [ inl p ↦ rw (p.1.0, p.1.1) | inr p ↦ rw p.0 ]
+
+  pub entered_at : (x y k a b : ℕ) → length entries ≡ 65536 → a < 256 → b < 256 →
+      entry_at (entered entries x y k) a b ≡ cond (eqb a x && eqb b y) (or_by (entry_at entries a b) k) (entry_at entries a b)
+  entered_at x y k a b w ha hb = with_entry_at (or_by (entry_at entries x y) k) x y a b w ha hb ∙ elim (pair_tells a b x y) [
+    | inl p ↦ rw (p.1.0, p.1.1)
+    | inr p ↦ rw p.0
+  ]

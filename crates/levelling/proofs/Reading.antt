@@ -1,11 +1,9 @@
 -- Shown: the entry of two places tells their link.
 --   price_in  the cost that an entry gives, where the shortcuts are these
-use Rattle.std.proofs.Common.{◌≡◌, ℕ, suc, ◌+◌, ◌*◌, ◌<◌, ◌≤◌, List, length, get_or, take, Some, None, Option, refl, ap, ◌∙◌, arith}
+use Rattle.std.proofs.Common.{◌≡◌, ℕ, suc, ◌<◌, min, false, not, ◌&&◌, eqb, ltb, List, Some, None, Option, sym, refl, ap, ◌∙◌, inl, inr, arith}
 use Rattle.std.specs.List.{slice_get}
 use Rattle.std.specs.Option.{option_map}
-use Rattle.std.proofs.lemmas.Bool.{lt-ltb, ne_eqb}
-use Rattle.std.proofs.lemmas.List.{get_or_default, get_or-take, length-take}
-use Rattle.std.proofs.lemmas.Option.{slice_get-get_or}
+use Rattle.std.proofs.lemmas.Bool.{cases_lt, lt-ltb, le-ltb, ne_eqb, and_left, and_right, cond-false}
 use Rattle.ground.specs.Earliest.{or_else}
 use Rattle.cost.specs.declared.Cost.{Ghosts as Costs}
 use Rattle.hierarchy.specs.declared.Shortcut.{Shortcut}
@@ -13,19 +11,15 @@ use Rattle.hierarchy.specs.Books.{shortcut_between, link_among}
 use Rattle.levelling.specs.declared.book.Book.{Book}
 use Rattle.levelling.specs.declared.entry.Entry.{Entry}
 use Rattle.levelling.specs.declared.entry.Entry.TheVariants.{Apart, Way, Shortcut as By}
-use Rattle.levelling.specs.Entries.{number_between, entry_at, named}
+use Rattle.levelling.specs.Entries.{number_between, entry_at, entry_between, named}
 use Rattle.levelling.specs.Meaning.{way_in, meaning}
-use Rattle.levelling.proofs.Numbers.{at_number, found_by_number, number_within}
+use Rattle.levelling.proofs.Pairs.{both_tell}
+use Rattle.levelling.proofs.Numbers.{at_number, found_by_number}
 
 abbrev pub price_in : {C : Type 0} → List (Shortcut C) → Entry C → Option C
 price_in l Apart = None
 price_in l (Way c) = Some c
 price_in l (By k) = option_map (λ s. s.cost) (slice_get l k)
-
--- the shortcut that stands at a number, whatever is read past the last
-pub shortcut_read : {C : Type 0} (l : List (Shortcut C)) (n j : ℕ) (d : Shortcut C) → j < n → n ≤ length l → slice_get (take n l) j ≡ Some (get_or l j d)
-shortcut_read l n j d h w =
-    slice_get-get_or (take n l) j d (omega (arith, length-take n l)) ∙ ap (λ s. Some s) (get_or-take n l j d h)
 
 -- the cost of the shortcut of a number
 by_number : {C : Type 0} (l : List (Shortcut C)) (a b n : ℕ) → n ≡ number_between l a b →
@@ -38,18 +32,27 @@ entry_tells l a b Apart h = by_number l a b 0 h
 entry_tells l a b (Way c) h = refl
 entry_tells l a b (By k) h = by_number l a b (suc k) h
 
-module _ {C : Type 0} (book : Book C) (a b : ℕ) (d e : Entry C) (is : get_or book.entries (a * 256 + b) d ≡ e) (ha : a < 256) (hb : b < 256) where
-  entry_is : entry_at book.entries a b ≡ e
-  entry_is = get_or_default book.entries (a * 256 + b) Apart d (omega arith) ∙ is
+-- no two places are both below a size that is at most 256 where one is not below 256
+far : (n a b : ℕ) → ((a < 256) × (b < 256) → ⊥) → (ltb a (min n 256) && (ltb b (min n 256) && not (eqb a b))) ≡ false
+far n a b h = elim (cases_lt a 256) [
+  | inl x ↦ elim (cases_lt b 256) [
+    | inl y ↦ absurd (h (x, y))
+    | inr y ↦ and_right (ltb a (min n 256)) _ (and_left _ _ (le-ltb b (min n 256) (omega arith)))
+  ]
+  | inr x ↦ and_left _ _ (le-ltb a (min n 256) (omega arith))
+]
 
-  pub link_is : (k : Costs C) (n : ℕ) → a < n → b < n → (a ≡ b → ⊥) → link_among n (meaning k book) a b ≡ price_in (take book.count book.shortcuts) e
-  link_is k n la lb apart =
-      rw (lt-ltb a n la, lt-ltb b n lb, ne_eqb a b apart, lt-ltb a 256 ha, lt-ltb b 256 hb, ← entry_is)
-      (entry_tells _ a b (entry_at book.entries a b) (book.indexed a b (ha, hb)))
+module _ {C : Type 0} (book : Book C) (a b : ℕ) (entry : Entry C) (is : entry ≡ entry_between book.entries.cells a b) where
+  pub link_is : (k : Costs C) (n : ℕ) → a < n → b < n → (a ≡ b → ⊥) → price_in book.shortcuts.items entry ≡ link_among (min n 256) (meaning k book) a b
+  link_is k n la lb apart = rw is (elim (both_tell a b) [
+    | inl h ↦
+        rw (lt-ltb a (min n 256) (omega (arith, h.1)), lt-ltb b (min n 256) (omega (arith, h.1)), ne_eqb a b apart, h.0)
+        (sym (entry_tells _ a b (entry_at book.entries.cells a b) (book.indexed a b h.1)))
+    | inr h ↦ rw h.0 (sym (cond-false _ _ None (far n a b h.1)))
+  ])
 
-  -- the number in an entry is that of a shortcut
-  pub number_below : (j : ℕ) → e ≡ By j → j < book.count
-  number_below j by =
-      let l = take book.count book.shortcuts in
-      let h : suc j ≡ number_between l a b = rw (entry_is, by) at (book.indexed a b (ha, hb)) in
-      omega (arith, number_within l a b, length-take book.count book.shortcuts)
+  -- the same, where the entry names a shortcut that is looked for by its number
+  pub link_of : (j m : ℕ) (found : Option (Shortcut C)) → entry ≡ By j → m ≡ j → found ≡ slice_get book.shortcuts.items m →
+      (k : Costs C) (n : ℕ) → a < n → b < n → (a ≡ b → ⊥) → option_map (λ s. s.cost) found ≡ link_among (min n 256) (meaning k book) a b
+  link_of j m found by wide f k n la lb apart =
+      ap (option_map (λ s. s.cost)) (f ∙ ap (slice_get book.shortcuts.items) wide) ∙ ap (price_in book.shortcuts.items) (sym by) ∙ link_is k n la lb apart

@@ -15,7 +15,7 @@ ltb_next x i d = elim (cases_lt x i) [
   | inr h ↦ le-ltb x (i + 1) (omega arith) ∙ sym (le-ltb x i h)
 ]
 
-put_same : {C : Type 0} (kept : ℕ → ℕ → Option C) (a b : ℕ) → put_price kept a b (kept a b) ≡ kept
+pub put_same : {C : Type 0} (kept : ℕ → ℕ → Option C) (a b : ℕ) → put_price kept a b (kept a b) ≡ kept
 put_same kept a b = fun_ext (λ x. fun_ext (λ y. elim (eqb_tells x a) [
   | inl p ↦ elim (eqb_tells y b) [ inl q ↦ rw (p.0, q.0, p.1, q.1) refl | inr q ↦ rw (p.0, q.0) refl ]
   | inr p ↦ rw p.0 refl
@@ -23,13 +23,6 @@ put_same kept a b = fun_ext (λ x. fun_ext (λ y. elim (eqb_tells x a) [
 
 module _ {K : Kind} where
   module _ (f : ℕ → Price K → Price K) (a : ℕ) (old : Book K) where
-    pub row_none : RowWritten f 0 a old old
-    row_none = record {
-      ways = λ x y. sym (cond-false _ _ _ (and_right (eqb x a) _ (le-ltb y 0 (omega arith))));
-      levels = refl;
-      shortcuts = refl;
-    }
-
     module _ (i : ℕ) (mid : Book K) (so_far : RowWritten f i a old mid) where
       at_place : mid.kept a i ≡ old.kept a i
       at_place = so_far.ways a i ∙ cond-false _ _ _ (and_right (eqb a a) _ (le-ltb i i (omega arith)))
@@ -56,13 +49,6 @@ module _ {K : Kind} where
           row_more mid (λ j. record { level = mid.level; kept = (sym (put_same mid.kept a i) ∙ ap (put_price mid.kept a i) (sym e)) j; shortcuts = mid.shortcuts })
 
   module _ (f : ℕ → ℕ → Price K → Price K) (n : ℕ) (old : Book K) where
-    pub rows_none : RowsWritten f 0 n old old
-    rows_none = record {
-      ways = λ x y. sym (cond-false _ _ _ (and_left (ltb x 0) _ (le-ltb x 0 (omega arith))));
-      levels = refl;
-      shortcuts = refl;
-    }
-
     pub rows_more : (i : ℕ) (mid new : Book K) → RowsWritten f i n old mid → RowWritten (f i) n i mid new → RowsWritten f (i + 1) n old new
     rows_more i mid new so_far row = record {
       ways = λ x y. row.ways x y ∙ here x y;

@@ -1,7 +1,9 @@
 -- The links of a book, found at once.
 --   number_between  1 + the number of the earliest shortcut that joins two places, or 0
---   entry_at        the entry of a pair of places
+--   entry_at        the entry of a pair of places below 256
+--   entry_between   the entry of a pair of places; those not below 256 are apart
 --   Indexed         every entry that is no way names the earliest shortcut between its places
+--   with_entry      the entries with that of a pair of places below 256
 --   entered         the entries once a shortcut joins a pair of places that were apart
 use Rattle.std.specs.Prelude.{◌≡◌, ℕ, zero, suc, ◌+◌, ◌*◌, ◌<◌, cond, ◌&&◌, List, [], ◌∷◌, nat_lt, slice_index_or, slice_set}
 use Rattle.hierarchy.specs.declared.Shortcut.{Shortcut}
@@ -22,6 +24,9 @@ number_between (s ∷ l) a b = cond (joins s a b) 1 (next (number_between l a b)
 abbrev pub entry_at : {C : Type 0} → List (Entry C) → ℕ → ℕ → Entry C
 entry_at entries a b = slice_index_or entries (a * 256 + b) Apart
 
+abbrev pub entry_between : {C : Type 0} → List (Entry C) → ℕ → ℕ → Entry C
+entry_between entries a b = cond (nat_lt a 256 && nat_lt b 256) (entry_at entries a b) Apart
+
 -- the number that an entry names; a way says nothing of it
 abbrev pub named : {C : Type 0} → Entry C → ℕ → ℕ
 named Apart number = 0
@@ -38,5 +43,8 @@ or_by Apart k = By k
 or_by (Way c) k = Way c
 or_by (By j) k = By j
 
+abbrev pub with_entry : {C : Type 0} → List (Entry C) → ℕ → ℕ → Entry C → List (Entry C)
+with_entry entries a b entry = cond (nat_lt a 256 && nat_lt b 256) (slice_set entries (a * 256 + b) entry) entries
+
 abbrev pub entered : {C : Type 0} → List (Entry C) → ℕ → ℕ → ℕ → List (Entry C)
-entered entries a b k = cond (nat_lt a 256 && nat_lt b 256) (slice_set entries (a * 256 + b) (or_by (entry_at entries a b) k)) entries
+entered entries a b k = with_entry entries a b (or_by (entry_at entries a b) k)

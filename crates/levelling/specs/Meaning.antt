@@ -5,7 +5,7 @@
 --   with_way       the way from one place below 256 to another is kept
 --   without_way    that way is set aside, in a book that has no shortcuts
 --   with_shortcut  the shortcut comes last, if there is room
-use Rattle.std.specs.Prelude.{ℕ, cond, ◌&&◌, [], ◌∷◌, ◌++◌, length, take, Some, None, Option, ◌==◌, nat_lt, slice_index}
+use Rattle.std.specs.Prelude.{ℕ, cond, ◌&&◌, [], ◌∷◌, ◌++◌, length, Some, None, Option, ◌==◌, nat_lt, slice_index}
 use Rattle.cost.specs.declared.Cost.{Ghosts as Costs}
 use Rattle.hierarchy.specs.declared.Shortcut.{Shortcut}
 use Rattle.hierarchy.specs.Kinds.{Kind, kind_of}
@@ -24,8 +24,8 @@ way_in (By k) = None
 abbrev pub meaning : {C : Type 0} → (k : Costs C) → Book C → Meant (kind_of k)
 meaning k book = record {
   level = λ x. slice_index book.levels x;
-  kept = λ a b. cond (nat_lt a 256 && nat_lt b 256) (way_in (entry_at book.entries a b)) None;
-  shortcuts = take book.count book.shortcuts;
+  kept = λ a b. cond (nat_lt a 256 && nat_lt b 256) (way_in (entry_at book.entries.cells a b)) None;
+  shortcuts = book.shortcuts.items;
 }
 
 abbrev pub blank_book : {C : Type 0} → (k : Costs C) → Meant (kind_of k)

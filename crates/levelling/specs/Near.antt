@@ -1,8 +1,9 @@
 -- Neighbours of a visited place.
 --   is_near     a place linked to v of level i or i + 1
+--   MarksNear   the marks say of each of the first n places whether it is near
 --   by_links    the two links by v, together
 --   over_links  the shortcut over v between two places
-use Rattle.std.specs.Prelude.{ℕ, ◌+◌, Bool, ◌&&◌, ◌||◌, is_some, ◌==◌}
+use Rattle.std.specs.Prelude.{◌≡◌, ℕ, ◌+◌, ◌<◌, Bool, false, ◌&&◌, ◌||◌, List, is_some, ◌==◌, slice_index_or}
 use Rattle.std.specs.Option.{unwrap_or}
 use Rattle.cost.specs.declared.Cost.{Ghosts as Costs}
 use Rattle.hierarchy.specs.declared.Shortcut.{Shortcut}
@@ -12,6 +13,9 @@ use Rattle.hierarchy.specs.Books.{Book, link_among}
 module _ {K : Kind} (n : ℕ) (book : Book K) where
   abbrev pub is_near : ℕ → ℕ → ℕ → Bool
   is_near i v a = is_some (link_among n book a v) && (book.level a == i || book.level a == i + 1)
+
+  abbrev pub MarksNear : ℕ → ℕ → List Bool → Type 0
+  MarksNear i v marks = (x : ℕ) → x < n → slice_index_or marks x false ≡ is_near i v x
 
   abbrev pub by_links : ℕ → ℕ → ℕ → Price K
   by_links v a b = add K (link_among n book a v) (link_among n book v b)

@@ -2,6 +2,7 @@
 --   Detoured   some arching chain from a to b without v costs at most the two links by v
 --   MarksNeed  a mark says of a later neighbour that it needs a shortcut over v
 --   is_open    a later neighbour whose link, if it has one, costs more than the two links by v
+--   is_beyond  a marked place that no record reaches at a cost of at most the two links by v
 --   Beyond     of the marked places those to which every walk over detour steps costs more, as far as a bound tells
 --   Covers     a price is at least what each marked pair costs by v
 use Rattle.std.specs.Prelude.{◌≡◌, ℕ, ◌+◌, ◌<◌, Bool, true, false, not, ◌&&◌, List, is_some, Decides, Option, nat_lt, slice_index_or}
@@ -10,6 +11,7 @@ use Rattle.hierarchy.specs.declared.SearchRecord.{SearchRecord}
 use Rattle.hierarchy.specs.Kinds.{Kind, kind_of}
 use Rattle.hierarchy.specs.Chains.{Round}
 use Rattle.hierarchy.specs.Books.{Book, link_among}
+use Rattle.frontier.specs.Fronts.{blank}
 use Rattle.levelling.specs.Near.{is_near, by_links}
 use Rattle.levelling.specs.Priced.{at_most, reached_within}
 use Rattle.levelling.specs.Detours.{detour_steps}
@@ -28,6 +30,9 @@ module _ {C : Type 0} (k : Costs C) (n : ℕ) (book : Book (kind_of k)) (v a : �
 
   abbrev pub Covers : List Bool → Option C → Type 0
   Covers marks bound = (b : ℕ) → b < n → slice_index_or marks b false ≡ true → is_some (by_links n book v a b) ≡ true → at_most k (by_links n book v a b) bound ≡ true
+
+  abbrev pub is_beyond : List Bool → List (SearchRecord C) → ℕ → Bool
+  is_beyond marks records b = slice_index_or marks b false && not (reached_within k (slice_index_or records b (blank k)) (by_links n book v a b))
 
   -- where the search is bounded, a place counts as reached only if that is told
   abbrev pub Beyond : ℕ → C → List Bool → List Bool → Type 0

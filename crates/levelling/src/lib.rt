@@ -4,7 +4,9 @@
 mod aside;
 pub mod book;
 mod detours;
+mod entries;
 pub mod entry;
+mod full;
 pub mod levels;
 mod links;
 mod near;
@@ -18,5 +20,6 @@ mod visit;
 
 pub use book::Book;
 pub use entry::Entry;
+pub use full::Full;
 pub use levels::Levels;
 pub use rounds::level;

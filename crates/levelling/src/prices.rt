@@ -1,4 +1,4 @@
-//! Prices: costs, or none.
+//! Prices: costs, or none. They are no `Ord`: a cost of a kind that is not known has none.
 ghost use Rattle.std.specs.Prelude.{◌≡◌};
 ghost use Rattle.levelling.specs.Priced.{at_most, dearer as dearer_of};
 
@@ -8,13 +8,7 @@ use cost::Cost;
 pub(crate) fn is_at_most<C: Cost>(price: Option<C>, limit: Option<C>) -> bool
     ensures { result ≡ at_most C.Cost price limit }
 {
-    let Some(cost) = price else {
-        return false;
-    };
-    match limit {
-        None => false,
-        Some(most) => !most.is_less(cost),
-    }
+    matches!((price, limit), (Some(cost), Some(most)) if !most.is_less(cost))
 }
 
 /// The dearer of two prices; none is cheaper than every cost.

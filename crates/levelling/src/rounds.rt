@@ -2,13 +2,14 @@
 ghost use Rattle.std.specs.Prelude.{◌≡◌, ℕ, ◌+◌, ◌<◌, ◌≤◌};
 ghost use Rattle.hierarchy.specs.Kinds.{kind_of};
 ghost use Rattle.hierarchy.specs.Lands.{Land, land_of};
-ghost use Rattle.hierarchy.specs.Levels.{levelling, round as round_of, raise as raised};
+ghost use Rattle.hierarchy.specs.Levels.{levelling, round as round_of, raise as raised, visit as visit_of};
 ghost use Rattle.levelling.specs.Meaning.{meaning};
 ghost use Rattle.levelling.specs.Chosen.{levels_in};
 ghost use Rattle.levelling.specs.Raised.{with_levels};
 
+use crate::links::BookLinks;
 use crate::start::start;
-use crate::visit::visit;
+use crate::visit::Visit;
 use crate::{Book, Levels};
 use cost::Cost;
 use ground::Ground;
@@ -19,35 +20,71 @@ pub fn level<G: Ground, R: Rule>(ground: &G, rule: &R, levels: Levels) -> Book<G
     ensures { meaning G.C.Cost result ≡ levelling (land_of G.C.Cost G.Ground ground.now) (R.Rule.pairs rule.now) (levels_in levels) }
 {
     let mut book = start(ground);
-    for lower in 1..levels.number() {
-        round(&mut book, rule, ground.size(), lower as u8);
+    for lower in 1..usize::from(levels) {
+        let round = Round {
+            rule,
+            size: ground.size(),
+            lower,
+        };
+        round.run(&mut book);
     }
     book
 }
 
-// Raises the places of a level, and visits each of the next in rising number.
-fn round<C: Cost, R: Rule>(book: &mut Book<C>, rule: &R, size: usize, lower: u8)
-    requires sizes { (size ≤ 256) × ((1 ≤ lower) × (lower < 255)) }
-    requires bounded { (x : ℕ) → (meaning C.Cost book.old).level x ≤ lower }
-    ensures is { (land : Land (kind_of C.Cost)) → land.size ≡ size → meaning C.Cost book.new ≡ round_of land (R.Rule.pairs rule.now) lower (meaning C.Cost book.old) }
-    ensures bounded { (x : ℕ) → (meaning C.Cost book.new).level x ≤ lower + 1 }
-{
-    raise(book, lower);
-    for place in 0..size {
-        if book.level(place) == lower as usize + 1 {
-            visit(book, rule, size, lower, place);
-        }
-    }
+// A round under a rule, among the places below `size`: each place of the level `lower` is raised, and sinks back if it may.
+#[derive(Drop)]
+struct Round<'a, R> {
+    rule: &'a R,
+    size: usize,
+    lower: usize,
+    ghost few: { size ≤ 256 },
+    ghost low: { (1 ≤ lower) × (lower < 255) },
 }
 
-// Every place of a level gets the next.
-fn raise<C: Cost>(book: &mut Book<C>, lower: u8)
-    requires { (1 ≤ lower) × (lower < 255) }
-    ensures { meaning C.Cost book.new ≡ with_levels (raised lower (meaning C.Cost book.old).level) (meaning C.Cost book.old) }
-{
-    for place in 0..256 {
-        if book.level(place) == lower as usize {
-            book.set_level(place, lower + 1);
+impl<'a, R: Rule> Round<'a, R> {
+    // Raises the places of a level, and visits each of the next in rising number.
+    fn run<C: Cost>(&self, book: &mut Book<C>)
+        requires bounded { (x : ℕ) → (meaning C.Cost book.old).level x ≤ self.now.lower }
+        ensures is { (land : Land (kind_of C.Cost)) → land.size ≡ self.now.size → meaning C.Cost book.new ≡ round_of land (R.Rule.pairs self.now.rule.now) self.now.lower (meaning C.Cost book.old) }
+        ensures bounded { (x : ℕ) → (meaning C.Cost book.new).level x ≤ self.now.lower + 1 }
+    {
+        self.raise(book);
+        for place in 0..self.size {
+            if book.level(place) == self.lower + 1 {
+                self.visit(book, place);
+            }
+        }
+    }
+
+    // Every place of a level gets the next.
+    fn raise<C: Cost>(&self, book: &mut Book<C>)
+        ensures { meaning C.Cost book.new ≡ with_levels (raised self.now.lower (meaning C.Cost book.old).level) (meaning C.Cost book.old) }
+    {
+        for place in 0..256 {
+            if book.level(place) == self.lower {
+                book.set_level(place, self.lower as u8 + 1);
+            }
+        }
+    }
+
+    // Visits a place of the next level: it sinks if each pair of its neighbours that then needs a shortcut may have one and all of
+    // these fit into the book, and they are appended.
+    fn visit<C: Cost>(&self, book: &mut Book<C>, middle: usize)
+        requires on { middle < self.now.size }
+        requires bounded { (x : ℕ) → (meaning C.Cost book.old).level x ≤ self.now.lower + 1 }
+        ensures { (land : Land (kind_of C.Cost)) → land.size ≡ self.now.size → meaning C.Cost book.new ≡ visit_of land (R.Rule.pairs self.now.rule.now) self.now.lower (meaning C.Cost book.old) middle }
+    {
+        let visit = Visit {
+            links: BookLinks {
+                book,
+                size: self.size,
+            },
+            lower: self.lower,
+            middle,
+        };
+        if let Some(needed) = visit.needed(self.rule) {
+            needed.append_to(book);
+            book.set_level(middle, self.lower as u8);
         }
     }
 }

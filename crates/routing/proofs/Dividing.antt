@@ -1,7 +1,8 @@
 -- Shown: a link that is not divided is laid out as it is, and one that is divided by its halves, each by the shortcuts before it.
 --   then_at  the number of the earliest shortcut if one more is looked at, counted from 1
 --   over     the places of a link, by its halves
-use Rattle.std.proofs.Common.{◌≡◌, ℕ, zero, suc, ◌<◌, Bool, true, false, cond, ◌&&◌, ltb, List, [], ◌∷◌, ◌++◌, take, is_some, Some, None, Option, sym, refl, ap, ◌∙◌, arith, length-take}
+use Rattle.std.proofs.Common.{◌≡◌, ℕ, zero, suc, ◌<◌, Bool, true, false, cond, ◌&&◌, ltb, List, [], ◌∷◌, ◌++◌, take, is_some, Some, None, Option, Result, sym, refl, ap, ◌∙◌, subst, arith, length-take}
+use Rattle.std.specs.Bool.{⊤}
 use Rattle.std.proofs.lemmas.Bool.{lt-ltb}
 use Rattle.std.specs.List.{slice_get}
 use Rattle.std.specs.Option.{option_map}
@@ -10,9 +11,11 @@ use Rattle.hierarchy.specs.Kinds.{Kind}
 use Rattle.hierarchy.specs.Books.{Book, joins, shortcut_between}
 use Rattle.hierarchy.specs.Layouts.{lay_by}
 use Rattle.levelling.specs.declared.book.halves.Halves.{Halves}
+use Rattle.levelling.specs.declared.full.Full.{Full}
 use Rattle.levelling.specs.Entries.{next, number_between}
 use Rattle.levelling.specs.Halves.{halved, halves_at, halves_before, MiddlesNear}
 use Rattle.levelling.proofs.Numbers.{number_within}
+use Rattle.routing.specs.Placed.{Appended}
 
 abbrev positive : ℕ → Bool
 positive zero = false
@@ -90,8 +93,11 @@ module _ {K : Kind} (book : Book K) (x y : ℕ) where
       go true e = refl
       go false e = rw (number_more x y book.shortcuts k, found_numbered x y (take k book.shortcuts)) (one_more k _ e)
 
-  pub laid_by_halves : (n : ℕ) (o : Option Halves) → x < 256 → y < 256 → o ≡ halves_before book n x y → over o ≡ lay_by book n x y
-  laid_by_halves n o h w e = ap over e ∙ rw (lt-ltb x 256 h, lt-ltb y 256 w) (sym (first_laid n))
+  -- what is appended by the halves is appended by the link
+  pub laid_by_halves : (n : ℕ) (o : Option Halves) → (x < 256) × (y < 256) → o ≡ halves_before book n x y →
+      (r : Result ⊤ Full) (old new : List ℕ) → Appended r old (over o) new → Appended r old (lay_by book n x y) new
+  laid_by_halves n o (h, w) e r old new =
+      subst (λ m. Appended r old m new) (ap over e ∙ rw (lt-ltb x 256 h, lt-ltb y 256 w) (sym (first_laid n)))
 
   numbered : (m : ℕ) (h : Halves) → Some h ≡ halves_at book.shortcuts m →
       (s : Shortcut K.C) × (slice_get book.shortcuts h.number ≡ Some s) × (h.middle ≡ s.middle) × (suc h.number ≡ m)

@@ -4,9 +4,9 @@ pub mod Turns
 pub mod Recorded
 pub mod Chained
 pub mod Wholes
-pub mod Chaining
 pub mod Dividing
 pub mod Room
+pub mod Tabled
 pub mod Narrowing
 pub mod Answering
 pub mod Searching

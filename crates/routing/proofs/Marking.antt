@@ -1,9 +1,7 @@
 -- Shown: what is marked once one place is, once the places to which a place goes up are, and once those of a whole level are.
 --   MarksBelow  of the places below i, those to which p goes up are marked besides
-use Rattle.std.proofs.Common.{◌≡◌, ℕ, ◌+◌, ◌<◌, ◌≤◌, Bool, true, false, cond, not, ◌&&◌, ◌||◌, eqb, ltb, ◌⊎◌, List, length, get_or, set, replicate, is_some, Some, None, Option, sym, refl, ap, ◌∙◌, subst, inl, inr, ⊎_elim, arith, length-set, get_or-set_other, get_or-set_same}
-use lib.ListN.{length-replicate, get_or-replicate}
-use Rattle.std.proofs.lemmas.Bool.{true≢false, cases_eq, and_parts, and_from, or_cases, or_left, or_right, and_left, cases_lt, cases_Bool, ltb-true, lt-ltb, le-ltb, eq-eqb, ne_eqb}
-use Rattle.std.proofs.lemmas.List.{get_or_past}
+use Rattle.std.proofs.Common.{◌≡◌, ℕ, ◌+◌, ◌<◌, Bool, true, false, cond, not, ◌&&◌, ◌||◌, eqb, ltb, ◌⊎◌, List, length, get_or, set, is_some, Some, None, Option, sym, refl, ap, ◌∙◌, subst, inl, inr, ⊎_elim, arith, length-set, get_or-set_other, get_or-set_same}
+use Rattle.std.proofs.lemmas.Bool.{true≢false, cases_eq, and_parts, and_from, or_cases, or_left, or_right, cases_lt, ltb-true, lt-ltb, le-ltb}
 use Rattle.hierarchy.specs.Kinds.{Kind}
 use Rattle.hierarchy.specs.Books.{Book, link_among}
 use Rattle.routing.specs.Climbed.{goes_up, GoesUpTo, MarksFrom, MarksLevel}
@@ -21,19 +19,6 @@ ltb_more : (x i : ℕ) → (x ≡ i → ⊥) → ltb x i ≡ ltb x (i + 1)
 ltb_more x i d = elim (cases_lt x i) [
   | inl h ↦ lt-ltb x i h ∙ sym (lt-ltb x (i + 1) (omega arith))
   | inr h ↦ le-ltb x i h ∙ sym (le-ltb x (i + 1) (omega arith))
-]
-
-pub none_marked : (n p x : ℕ) → n ≤ p → get_or (replicate n false) x false ≡ (ltb x n && eqb x p)
-none_marked n p x h = elim (cases_lt x n) [
-  | inl k ↦ get_or-replicate n x false false k ∙ sym (ap (λ t. ltb x n && t) (ne_eqb x p (λ e. omega arith)) ∙ and_false (ltb x n))
-  | inr k ↦ get_or_past (replicate n false) x false (rw length-replicate k) ∙ sym (and_left (ltb x n) _ (le-ltb x n k))
-]
-
-pub one-marked : (n p x : ℕ) → p < n → get_or (set (replicate n false) p true) x false ≡ (ltb x n && eqb x p)
-one-marked n p x h = elim (cases_eq x p) [
-  | inl e ↦ rw e (get_or-set_same (replicate n false) p true false (rw length-replicate h) ∙ sym (and_from (ltb p n) _ (lt-ltb p n h) (eq-eqb p p refl)))
-  | inr e ↦ get_or-set_other (replicate n false) p x true false e ∙ none_marked n (x + n + 1) x (omega arith) ∙
-      ap (λ t. ltb x n && t) (ne_eqb x (x + n + 1) (λ d. omega arith) ∙ sym (ne_eqb x p e))
 ]
 
 module _ {K : Kind} (n : ℕ) (book : Book K) where
@@ -63,16 +48,6 @@ module _ {K : Kind} (n : ℕ) (book : Book K) where
           sym (or_right (get_or before i false) _ (and_from (ltb i (i + 1)) _ (lt-ltb _ _ (omega arith)) (sym e))))
       | inr d ↦ get_or-set_other now i x true false d ∙ m x ∙ ap (λ t. get_or before x false || (t && goes_up n book p x)) (ltb_more x i d)
     ]
-
-    -- no place goes up to one that is not below n
-    pub below_all : n ≤ i → MarksBelow p i before now → MarksFrom n book p before now
-    below_all w m x = m x ∙ ap (λ t. get_or before x false || t) (elim (cases_lt x n) [
-      | inl d ↦ ap (λ t. t && goes_up n book p x) (lt-ltb x i (omega arith))
-      | inr d ↦ rw (none_beyond d) (and_false (ltb x i))
-    ])
-      where
-        none_beyond : n ≤ x → goes_up n book p x ≡ false
-        none_beyond d = ⊎_elim (λ u. absurd (let k = (up_parts p x u).1 in omega arith)) (λ e. e) (cases_Bool (goes_up n book p x))
 
   module _ (l i : ℕ) (before : List Bool) where
     also : (x : ℕ) → GoesUpTo n book l i before x → GoesUpTo n book l (i + 1) before x

@@ -8,7 +8,7 @@ use Rattle.hierarchy.specs.Books.{Book, link}
 use Rattle.hierarchy.specs.Searches.{Relevant, relevant, links}
 use Rattle.hierarchy.proofs.SearchRelevant.{relevant-true, true-relevant}
 use Rattle.routing.specs.Climbed.{MarksClimbs}
-use Rattle.routing.specs.Narrowed.{narrowed}
+use Rattle.routing.specs.Narrowed.{narrowed, marked}
 
 same_tests : (s t : Bool) → (s ≡ true → t ≡ true) → (t ≡ true → s ≡ true) → s ≡ t
 same_tests true t f g = sym (f refl)
@@ -28,23 +28,23 @@ links_beyond land book top a b v x h = none_either_way (relevant land book top a
 
 module _ {K : Kind} (land : Land K) (book : Book K) (top a b : ℕ) (first second marks : List Bool)
     (from_a : MarksClimbs land.size book a first) (from_b : MarksClimbs land.size book b second)
-    (marked : (x : ℕ) → x < land.size → get_or marks x false ≡ ((get_or first x false || get_or second x false) || ((eqb x a || eqb x b) || eqb (book.level x) top))) where
+    (marks-as : (x : ℕ) → x < land.size → get_or marks x false ≡ marked book top a b first second x) where
   marks-relevant : (x : ℕ) → x < land.size → get_or marks x false ≡ true → Relevant land book top a b x
   marks-relevant x h e =
       ⊎_elim (λ c. inr (inr (⊎_elim (λ f. inl ((from_a x h).0 f)) (λ f. inr ((from_b x h).0 f)) (or_cases (get_or first x false) _ c))))
       (λ c. ⊎_elim (λ d. inl (⊎_elim (λ f. inl (eqb-true x a f)) (λ f. inr (eqb-true x b f)) (or_cases (eqb x a) _ d)))
       (λ t. inr (inl (eqb-true _ _ t))) (or_cases (eqb x a || eqb x b) _ c))
-      (or_cases (get_or first x false || get_or second x false) _ (sym (marked x h) ∙ e))
+      (or_cases (get_or first x false || get_or second x false) _ (sym (marks-as x h) ∙ e))
 
   relevant-marked : (x : ℕ) → x < land.size → Relevant land book top a b x → get_or marks x false ≡ true
   relevant-marked x h (inl (inl e)) =
-      marked x h ∙ or_right (get_or first x false || get_or second x false) _ (or_left (eqb x a || eqb x b) _ (or_left (eqb x a) _ (eq-eqb x a e)))
+      marks-as x h ∙ or_right (get_or first x false || get_or second x false) _ (or_left (eqb x a || eqb x b) _ (or_left (eqb x a) _ (eq-eqb x a e)))
   relevant-marked x h (inl (inr e)) =
-      marked x h ∙ or_right (get_or first x false || get_or second x false) _ (or_left (eqb x a || eqb x b) _ (or_right (eqb x a) _ (eq-eqb x b e)))
+      marks-as x h ∙ or_right (get_or first x false || get_or second x false) _ (or_left (eqb x a || eqb x b) _ (or_right (eqb x a) _ (eq-eqb x b e)))
   relevant-marked x h (inr (inl t)) =
-      marked x h ∙ or_right (get_or first x false || get_or second x false) _ (or_right (eqb x a || eqb x b) _ (eq-eqb _ _ t))
-  relevant-marked x h (inr (inr (inl c))) = marked x h ∙ or_left _ _ (or_left _ _ ((from_a x h).1 c))
-  relevant-marked x h (inr (inr (inr c))) = marked x h ∙ or_left _ _ (or_right (get_or first x false) _ ((from_b x h).1 c))
+      marks-as x h ∙ or_right (get_or first x false || get_or second x false) _ (or_right (eqb x a || eqb x b) _ (eq-eqb _ _ t))
+  relevant-marked x h (inr (inr (inl c))) = marks-as x h ∙ or_left _ _ (or_left _ _ ((from_a x h).1 c))
+  relevant-marked x h (inr (inr (inr c))) = marks-as x h ∙ or_left _ _ (or_right (get_or first x false) _ ((from_b x h).1 c))
 
   pub narrowed-links : narrowed land.size book marks ≡ links land book top a b
   narrowed-links = fun_ext (λ v. fun_ext (λ x. ⊎_elim

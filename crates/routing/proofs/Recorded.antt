@@ -1,5 +1,6 @@
 -- Shown: what the record table says after a search is what the front says: who is settled, at what cost and from where, and how many.
-use Rattle.std.proofs.Common.{◌≡◌, ℕ, zero, suc, ◌+◌, ◌<◌, Bool, true, false, cond, ◌&&◌, List, ◌++◌, map, get_or, drop, unwrap_or, refl, ap, ◌∙◌, arith}
+use Rattle.std.proofs.Common.{◌≡◌, ℕ, zero, suc, ◌+◌, ◌<◌, Bool, true, false, cond, ◌&&◌, List, ◌++◌, map, length, get_or, drop, unwrap_or, refl, sym, ap, ◌∙◌, arith}
+use Rattle.std.proofs.Math.Seq.{drop-length}
 use Rattle.std.proofs.lemmas.Bool.{lt-ltb, cond-true}
 use Rattle.cost.specs.declared.Cost.{Ghosts as Costs}
 use Rattle.ground.specs.Counts.{count}
@@ -35,7 +36,10 @@ module _ {C : Type 0} (k : Costs C) (front : Front (kind_of k)) (n : ℕ) (befor
   read_tally waiting =
       count_same _ _ n (λ x h. ap (λ t. t && (get_or table x (blank k)).settled) (lt-ltb x n h) ∙ read_settled x (blank k) h)
 
--- of two tables with the same front and the same later records
-pub after_from : {C : Type 0} (k : Costs C) (n : ℕ) (front whole : Front (kind_of k)) (before last table : List (SearchRecord C)) →
-    front ≡ whole → drop n last ≡ drop n before → table ≡ table_after front n last → table ≡ table_after whole n before
-after_from k n front whole before last table e rest after = after ∙ (λ i. map (recorded (e i)) (below n) ++ rest i)
+-- of two tables of one length, with the same front: no record is later than all
+pub all_recorded : {C : Type 0} (k : Costs C) (front whole : Front (kind_of k)) → front ≡ whole → (last before : List (SearchRecord C)) → length last ≡ length before →
+    (table : List (SearchRecord C)) → table ≡ table_after front (length last) last →
+    (after : List (SearchRecord C)) → after ≡ table → after ≡ table_after whole (length before) before
+all_recorded k front whole e last before same table t after a =
+    let none : drop (length last) last ≡ drop (length before) before = drop-length last ∙ sym (drop-length before) in
+    a ∙ t ∙ (λ i. map (recorded (e i)) (below (same i)) ++ none i)

@@ -1,35 +1,49 @@
--- Shown: what is left of a search after a turn leads to the same end.
-use Rattle.std.proofs.Common.{◌≡◌, ℕ, suc, ◌+◌, ◌-◌, ◌<◌, Bool, true, false, ◌&&◌, List, length, get_or, Some, None, Option, sym, ap, ◌∙◌, arith}
-use Rattle.std.proofs.lemmas.List.{get_or_default}
-use Rattle.std.proofs.lemmas.Bool.{lt-ltb, cond-true, cond-false}
-use Rattle.cost.specs.declared.Cost.{Ghosts as Costs}
-use Rattle.hierarchy.specs.declared.SearchRecord.{SearchRecord}
+-- Shown: what is left of a search after some turns leads to the same end.
+--   Left  what the rest of the search leads to, after no more turns than places are settled
+use Rattle.std.proofs.Common.{◌≡◌, ℕ, zero, suc, ◌-◌, ◌≤◌, true, false, Some, None, Option, refl, sym, ap, ◌∙◌, arith}
+use Rattle.std.proofs.lemmas.Bool.{cond-true, cond-false}
 use Rattle.hierarchy.specs.Kinds.{Kind, Price}
-use Rattle.hierarchy.specs.Searches.{Front, nearest, settle, search_on}
-use Rattle.frontier.specs.Fronts.{blank, front_of}
+use Rattle.hierarchy.specs.Searches.{Front, nearest, settle, search_on, tally}
+use Rattle.frontier.proofs.Turning.{tally_more, tally_below}
 
--- after i of n turns
-module _ {K : Kind} (step : ℕ → ℕ → Price K) (n b i : ℕ) (front whole : Front K) (h : i < n) (left : search_on step n b (n - i) front ≡ whole) where
-  abbrev next : Option ℕ → Front K
-  next o = elim o [ None ↦ front | Some v ↦ search_on step n b (n - (i + 1)) (settle step front v) ]
+module _ {K : Kind} (step : ℕ → ℕ → Price K) (n b : ℕ) where
+  module _ (front : Front K) where
+    abbrev next : ℕ → Option ℕ → Front K
+    next j o = elim o [ None ↦ front | Some v ↦ search_on step n b j (settle step front v) ]
 
-  turn : search_on step n b (suc (n - (i + 1))) front ≡ whole
-  turn = let e : suc (n - (i + 1)) ≡ n - i = omega arith in ap (λ j. search_on step n b j front) e ∙ left
+    done : front.settled b ≡ true → (j : ℕ) → search_on step n b j front ≡ front
+    done e zero = refl
+    done e (suc j) = cond-true (front.settled b) front (next j (nearest front n)) e
 
-  pub goal_settled : front.settled b ≡ true → front ≡ whole
-  goal_settled e = sym (cond-true (front.settled b) front (next (nearest front n)) e) ∙ turn
+    turned : front.settled b ≡ false → (o : Option ℕ) → o ≡ nearest front n → (j : ℕ) → search_on step n b (suc j) front ≡ next j o
+    turned e o near j = cond-false (front.settled b) front (next j (nearest front n)) e ∙ ap (next j) (sym near)
 
-  turned : front.settled b ≡ false → (o : Option ℕ) → o ≡ nearest front n → next o ≡ whole
-  turned e o near = ap next near ∙ sym (cond-false (front.settled b) front (next (nearest front n)) e) ∙ turn
+    stuck : front.settled b ≡ false → None ≡ nearest front n → (j : ℕ) → search_on step n b j front ≡ front
+    stuck e near zero = refl
+    stuck e near (suc j) = turned e None near j
 
-  pub none_waits : front.settled b ≡ false → None ≡ nearest front n → front ≡ whole
-  none_waits e near = turned e None near
+  pub record Left (front whole : Front K) : Type 0 where
+    pub turns : ℕ
+    pub made : turns ≤ tally front n
+    pub leads : search_on step n b (n - turns) front ≡ whole
 
-  pub turn_more : front.settled b ≡ false → (v : ℕ) → Some v ≡ nearest front n → (after : Front K) → after ≡ settle step front v →
-      search_on step n b (n - (i + 1)) after ≡ whole
-  turn_more e v near after s = ap (search_on step n b (n - (i + 1))) s ∙ turned e (Some v) near
+  pub begun : (front : Front K) → Left front (search_on step n b n front)
+  begun front = record { turns = 0; made = omega arith; leads = ap (λ j. search_on step n b j front) (omega arith) }
 
--- d is the default at which the record was read
-pub settled_read : {C : Type 0} (k : Costs C) (n x : ℕ) (table : List (SearchRecord C)) (waiting : List Bool) (d : SearchRecord C) (s : Bool) →
-    x < n → x < length table → (get_or table x d).settled ≡ s → (front_of k n table waiting).settled x ≡ s
-settled_read k n x table waiting d s h on e = (λ i. lt-ltb x n h i && (get_or_default table x (blank k) d on i).settled) ∙ e
+  module _ (front whole : Front K) (left : Left front whole) where
+    pub goal_settled : front.settled b ≡ true → front ≡ whole
+    goal_settled e = sym (done front e (n - left.turns)) ∙ left.leads
+
+    pub none_waits : front.settled b ≡ false → None ≡ nearest front n → front ≡ whole
+    none_waits e near = sym (stuck front e near (n - left.turns)) ∙ left.leads
+
+    pub turn_more : front.settled b ≡ false → (v : ℕ) → Some v ≡ nearest front n → (after : Front K) → after ≡ settle step front v → Left after whole
+    turn_more e v near after s =
+        let below = tally_below step n v front after near s in
+        let more = tally_more step n v front after near s in
+        let one : n - left.turns ≡ suc (n - suc left.turns) = omega (arith, left.made, below) in
+        record {
+          turns = suc left.turns;
+          made = omega (arith, left.made, more);
+          leads = ap (search_on step n b (n - suc left.turns)) s ∙ sym (turned front e (Some v) near (n - suc left.turns)) ∙ ap (λ j. search_on step n b j front) (sym one) ∙ left.leads;
+        }

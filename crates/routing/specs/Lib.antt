@@ -1,4 +1,5 @@
 pub mod Climbed
+pub mod Divided
 pub mod Found
 pub mod Placed
 pub mod Narrowed

@@ -1,18 +1,29 @@
 //! The search of a route, and the chain of places that it found.
-ghost use Rattle.std.specs.Prelude.{◌≡◌, ◌<◌, ◌≤◌, length, drop};
+ghost use Rattle.std.specs.Prelude.{◌≡◌, ◌<◌, ◌≤◌, length};
 ghost use Rattle.hierarchy.specs.Searches.{search_on, table_after};
-ghost use Rattle.frontier.specs.Fronts.{front_of, Inside};
+ghost use Rattle.frontier.specs.Fronts.{Inside};
+ghost use Rattle.frontier.specs.Searching.{size as size_of, front};
 ghost use Rattle.routing.specs.Found.{whole_search, predecessor_in, chain_in, places_of};
 
+use arrayvec::ArrayVec;
 use cost::Cost;
-use frontier::Steps;
+use frontier::{Frontier, Steps};
 use hierarchy::SearchRecord;
 
-/// A chain of places, in order: `places` from `first` on.
-#[derive(Clone, Copy)]
+/// A chain of places, in order, of which there are at most 257.
+#[derive(Drop)]
 pub struct Chain {
-    pub places: [usize; 257],
-    pub first: usize,
+    places: ArrayVec<usize, 257>,
+}
+
+impl Chain {
+    /// The places in their order.
+    pub fn places(&self) -> &[usize]
+        ensures places { result.now ≡ places_of self.now }
+        ensures few { length result.now ≤ 257 }
+    {
+        self.places.as_slice()
+    }
 }
 
 /// Searches from `start` to `goal` among `size` places, and says whether the goal is settled. The table keeps the settled places.
@@ -29,11 +40,7 @@ pub fn find<S: Steps>(
     ensures table { table.new ≡ table_after (whole_search S.C.Cost (S.Steps.step graph.now) size start goal) size table.old }
     ensures found { result ≡ (whole_search S.C.Cost (S.Steps.step graph.now) size start goal).settled goal }
 {
-    let mut waiting = [false; 256];
-    frontier::begin_at(table, &mut waiting, size, start);
-    settle_until(graph, size, goal, table, &mut waiting);
-    frontier::finish(table, size);
-    table[goal].settled
+    find_in(graph, start, goal, &mut table[..size])
 }
 
 /// The chain from `start` to `goal` that the predecessors in a table lead back along, in at most `size` steps.
@@ -44,58 +51,63 @@ pub fn chain_back<C: Cost>(
     goal: usize,
 ) -> Chain
     requires { size ≤ 256 }
-    ensures places { places_of result ≡ chain_in C.Cost table.now start size goal }
-    ensures first { result.first ≤ 256 }
+    ensures { places_of result ≡ chain_in C.Cost table.now start size goal }
 {
-    // predecessors lead from the goal back, so the places are written from the last on
-    let mut chain = Chain {
-        places: [goal; 257],
-        first: 256,
-    };
+    // predecessors lead from the goal back
+    let mut places = ArrayVec::new();
+    let mut place = goal;
+    places.push(place);
+    // at most `size` steps, so that predecessors that go in a circle come to an end too
     for _step in 0..size {
-        let place = chain.places[chain.first];
         if place == start {
-            return chain;
+            break;
         }
-        chain.first -= 1;
-        chain.places[chain.first] = predecessor(table, place);
+        place = predecessor(table, place);
+        places.push(place);
     }
-    chain
+    places.reverse();
+    Chain { places }
 }
 
-// Settles the nearest place until the goal is settled or nothing waits.
-fn settle_until<S: Steps>(
-    graph: &S,
-    size: usize,
-    goal: usize,
-    table: &mut [SearchRecord<S::C>],
-    waiting: &mut [bool],
-)
-    requires rows { (size ≤ length table.old) × (size ≤ length waiting.old) }
-    requires on { goal < size }
-    requires inside { Inside size (S.Steps.step graph.now) }
-    ensures front { front_of S.C.Cost size table.new waiting.new ≡ search_on (S.Steps.step graph.now) size goal size (front_of S.C.Cost size table.old waiting.old) }
-    ensures rest { drop size table.new ≡ drop size table.old }
+// The search in a table that has a record for each place and no other.
+fn find_in<S: Steps>(graph: &S, start: usize, goal: usize, table: &mut [SearchRecord<S::C>]) -> bool
+    requires rows { length table.old ≤ 256 }
+    requires ends { (start < length table.old) × (goal < length table.old) }
+    requires inside { Inside (length table.old) (S.Steps.step graph.now) }
+    ensures table { let n = length table.old in table.new ≡ table_after (whole_search S.C.Cost (S.Steps.step graph.now) n start goal) n table.old }
+    ensures found { result ≡ (whole_search S.C.Cost (S.Steps.step graph.now) (length table.old) start goal).settled goal }
 {
-    // each turn settles one place more
-    for _turn in 0..size {
-        if table[goal].settled {
-            return;
-        }
-        let Some(place) = frontier::nearest(table, waiting, size) else {
-            return;
+    let mut frontier = Frontier::<S::C, 256>::begin(table, start);
+    let found = settle_until(graph, goal, &mut frontier);
+    frontier.finish();
+    found
+}
+
+// Settles the nearest place until the goal is settled or nothing waits, and says whether the goal is settled.
+fn settle_until<S: Steps, const N: usize>(
+    graph: &S,
+    goal: usize,
+    frontier: &mut Frontier<'_, S::C, N>,
+) -> bool
+    requires on { goal < size_of frontier.old }
+    requires inside { Inside (size_of frontier.old) (S.Steps.step graph.now) }
+    ensures same_reference { frontier.new.table.ghost_name ≡ frontier.old.table.ghost_name }
+    ensures size { size_of frontier.new ≡ size_of frontier.old }
+    ensures front { let n = size_of frontier.old in front S.C.Cost frontier.new ≡ search_on (S.Steps.step graph.now) n goal n (front S.C.Cost frontier.old) }
+    ensures found { result ≡ (front S.C.Cost frontier.new).settled goal }
+{
+    while !frontier.is_settled(goal) {
+        let Some(place) = frontier.nearest() else {
+            return false;
         };
-        frontier::settle(graph, table, waiting, size, place);
+        frontier.settle(graph, place);
     }
+    true
 }
 
 // From where a place was reached; 0 of a place that has no record.
 fn predecessor<C: Cost>(table: &[SearchRecord<C>], place: usize) -> usize
     ensures { result ≡ predecessor_in C.Cost table.now place }
 {
-    if place < table.len() {
-        table[place].predecessor
-    } else {
-        0
-    }
+    table.get(place).map_or(0, |record| record.predecessor)
 }

@@ -1,12 +1,10 @@
 //! The places of a route.
-ghost use Rattle.std.specs.Prelude.{◌≤◌};
+use arrayvec::ArrayVec;
 
 mod places;
 
 /// Places, of which there are at most 256.
 #[derive(Drop)]
 pub struct Laid {
-    places: [u16; 256],
-    count: usize,
-    ghost few: { count ≤ 256 },
+    places: ArrayVec<u16, 256>,
 }

@@ -3,59 +3,68 @@ ghost use Rattle.std.specs.Prelude.{◌<◌};
 ghost use Rattle.hierarchy.specs.Layouts.{lay_by, laid as laid_over};
 ghost use Rattle.levelling.specs.Halves.{MiddlesNear};
 ghost use Rattle.levelling.specs.Meaning.{meaning};
+ghost use Rattle.routing.specs.Divided.{Divided};
 ghost use Rattle.routing.specs.Placed.{places_of, Appended, LaidOut, Near};
 
 use crate::laid::Laid;
 use cost::Cost;
-use levelling::Book;
+use levelling::{Book, Full};
 
 /// The places of a chain laid out, if they are at most 256.
-pub fn lay_out<C: Cost>(book: &Book<C>, chain: &[usize]) -> Option<Laid>
+pub fn lay_out<C: Cost>(book: &Book<C>, chain: &[usize]) -> Result<Laid, Full>
     requires near { Near chain.now }
     requires middles { MiddlesNear (meaning C.Cost book.now).shortcuts }
     ensures { LaidOut result (laid_over (meaning C.Cost book.now) chain.now) }
 {
-    let mut laid = Laid::none();
-    if lay_chain(book, &mut laid, chain) {
-        Some(laid)
-    } else {
-        None
-    }
+    DividedBook { book }.lay_out(chain)
 }
 
-// Appends the places of a chain laid out, and says whether there was room.
-fn lay_chain<C: Cost>(book: &Book<C>, laid: &mut Laid, chain: &[usize]) -> bool
-    requires near { Near chain.now }
-    requires middles { MiddlesNear (meaning C.Cost book.now).shortcuts }
-    ensures { Appended result (places_of laid.old) (laid_over (meaning C.Cost book.now) chain.now) (places_of laid.new) }
-{
-    if chain.len() == 0 {
-        return true;
-    }
-    if !laid.append(chain[0]) {
-        return false;
-    }
-    let all = book.count();
-    for i in 1..chain.len() {
-        if !lay(book, laid, chain[i - 1], chain[i], all) {
-            return false;
-        }
-    }
-    true
+/// A book of which every shortcut is divided at a place below 256, so that its links can be laid out.
+#[derive(Drop)]
+pub(crate) struct DividedBook<'a, C> {
+    pub(crate) book: &'a Book<C>,
+    ghost middles: { Divided book.now },
 }
 
-// Appends the places that follow `from` on a link, by the first `before` shortcuts, and says whether there was room.
-fn lay<C: Cost>(book: &Book<C>, laid: &mut Laid, from: usize, to: usize, before: usize) -> bool
-    requires ends { (from < 256) × (to < 256) }
-    requires middles { MiddlesNear (meaning C.Cost book.now).shortcuts }
-    ensures { Appended result (places_of laid.old) (lay_by (meaning C.Cost book.now) before from to) (places_of laid.new) }
-{
-    match book.halves(from, to, before) {
-        None => laid.append(to),
-        Some(halves) => {
-            // Each half is laid out by earlier shortcuts, so this ends.
-            lay(book, laid, from, halves.middle, halves.number)
-                && lay(book, laid, halves.middle, to, halves.number)
+impl<'a, C: Cost> DividedBook<'a, C> {
+    // As the function `lay_out`.
+    pub(crate) fn lay_out(&self, chain: &[usize]) -> Result<Laid, Full>
+        requires { Near chain.now }
+        ensures { LaidOut result (laid_over (meaning C.Cost self.now.book.now) chain.now) }
+    {
+        let mut laid = Laid::none();
+        self.lay_chain(&mut laid, chain)?;
+        Ok(laid)
+    }
+
+    // Appends the places of a chain laid out.
+    fn lay_chain(&self, laid: &mut Laid, chain: &[usize]) -> Result<(), Full>
+        requires { Near chain.now }
+        ensures { Appended result (places_of laid.old) (laid_over (meaning C.Cost self.now.book.now) chain.now) (places_of laid.new) }
+    {
+        let Some((first, rest)) = chain.split_first() else {
+            return Ok(());
+        };
+        laid.append(*first)?;
+        let all = self.book.count();
+        let mut from = *first;
+        for to in rest {
+            self.lay(laid, from, *to, all)?;
+            from = *to;
         }
+        Ok(())
+    }
+
+    // Appends the places that follow `from` on a link, by the first `before` shortcuts.
+    fn lay(&self, laid: &mut Laid, from: usize, to: usize, before: usize) -> Result<(), Full>
+        requires ends { (from < 256) × (to < 256) }
+        ensures { Appended result (places_of laid.old) (lay_by (meaning C.Cost self.now.book.now) before from to) (places_of laid.new) }
+    {
+        let Some(halves) = self.book.halves(from, to, before) else {
+            return laid.append(to);
+        };
+        // Each half is laid out by earlier shortcuts, so this ends.
+        self.lay(laid, from, halves.middle, halves.number)?;
+        self.lay(laid, halves.middle, to, halves.number)
     }
 }

@@ -1,15 +1,16 @@
 //! The links that a search may follow: those that lead to relevant places.
-ghost use Rattle.std.specs.Prelude.{◌≡◌, min, ◌||◌, ◌==◌};
+ghost use Rattle.std.specs.Prelude.{◌≡◌, ◌<◌, min};
 ghost use Rattle.hierarchy.specs.Kinds.{kind_of};
 ghost use Rattle.hierarchy.specs.Lands.{Land};
 ghost use Rattle.hierarchy.specs.Searches.{links};
 ghost use Rattle.levelling.specs.Meaning.{meaning};
-ghost use Rattle.routing.specs.Narrowed.{narrowed};
+ghost use Rattle.routing.specs.Narrowed.{narrowed, marked};
 
 use crate::climb::climb;
 use cost::Cost;
 use frontier::Steps;
 use levelling::Book;
+use std::array;
 
 /// The links of a book that lead to marked places.
 #[derive(Drop)]
@@ -46,16 +47,14 @@ pub fn relevant_links<C: Cost>(
 {
     let first = climb(book, size, from);
     let second = climb(book, size, to);
-    let mut marks = [false; 256];
-    for place in 0..256 {
-        marks[place] = first[place] | second[place] | is_end_or_top(book, top, from, to, place);
-    }
+    let marks = array::from_fn(
+        |place| -> bool
+            requires { place < 256 }
+            ensures { result ≡ marked (meaning C.Cost book.entry.now) top from to first second place }
+        {
+            let is_end = (place == from) | (place == to);
+            first[place] | second[place] | is_end | (book.level(place) == top)
+        },
+    );
     MarkedLinks { book, size, marks }
-}
-
-// Whether a place is relevant in itself: it is an end of the route, or stands at the top level.
-fn is_end_or_top<C: Cost>(book: &Book<C>, top: usize, from: usize, to: usize, place: usize) -> bool
-    ensures { result ≡ ((place == from || place == to) || (meaning C.Cost book.now).level place == top) }
-{
-    (place == from) | (place == to) | (book.level(place) == top)
 }

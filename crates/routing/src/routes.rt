@@ -14,12 +14,12 @@ ghost use Rattle.routing.specs.Routes.{routed, Handed};
 
 use crate::find::{chain_back, find};
 use crate::laid::Laid;
-use crate::layout::lay_out;
+use crate::layout::DividedBook;
 use crate::relevant::relevant_links;
 use cost::Cost;
 use ground::{Ground, Refusal};
 use hierarchy::{Route, SearchRecord};
-use levelling::Book;
+use levelling::{Book, Full};
 
 /// The route from one place to another over the links of a book with that top level. Its places are written into the list. Refused
 /// with 9 where a place is not on the ground, with 10 where it is shut, with 12 where the table has fewer records than there are
@@ -36,35 +36,15 @@ pub fn route<G: Ground>(
     requires middles { MiddlesNear (meaning G.C.Cost book.now).shortcuts }
     ensures { routed (kind_of G.C.Cost) result table.new list.new ≡ routing (land_of G.C.Cost G.Ground ground.now) (meaning G.C.Cost book.now) top from to table.old list.old }
 {
-    match check_ends(ground, from, to, table.len()) {
-        Err(refusal) => Err(refusal),
-        Ok(()) => search_route(book, ground.size(), top, from, to, table, list),
-    }
-}
-
-// The route between two places, of which both are below `size`.
-fn search_route<C: Cost>(
-    book: &Book<C>,
-    size: usize,
-    top: usize,
-    from: usize,
-    to: usize,
-    table: &mut [SearchRecord<C>],
-    list: &mut [u16],
-) -> Result<Route<C>, Refusal>
-    requires rows { (size ≤ 256) × (size ≤ length table.old) }
-    requires ends { (from < size) × (to < size) }
-    requires middles { MiddlesNear (meaning C.Cost book.now).shortcuts }
-    ensures { (land : Land (kind_of C.Cost)) → land.size ≡ size → routed (kind_of C.Cost) result table.new list.new ≡ searched land (meaning C.Cost book.now) (search land (meaning C.Cost book.now) top from to) from to table.old list.old }
-{
-    let links = relevant_links(book, size, top, from, to);
-    if !find(&links, size, from, to, table) {
-        return Err(Refusal::NoWay);
-    }
-    match lay_found(book, size, from, to, table) {
-        None => Err(Refusal::RouteTooLong),
-        Some(laid) => hand_over(&laid, size, to, table, list),
-    }
+    check_ends(ground, from, to, table.len())?;
+    let query = Query {
+        divided: DividedBook { book },
+        size: ground.size(),
+        top,
+        from,
+        to,
+    };
+    query.answer(table, list)
 }
 
 // Whether a route may be searched: both places are on the ground and free, and there is a record for each place.
@@ -72,6 +52,7 @@ fn check_ends<G: Ground>(ground: &G, from: usize, to: usize, records: usize) -> 
     ensures is { result ≡ outcome (before_search (land_of G.C.Cost G.Ground ground.now) from to records) }
     ensures asked { OnOk result ((from < G.Ground.size ground.now) × (to < G.Ground.size ground.now) × (G.Ground.size ground.now ≤ records)) }
 {
+    // Twice each, since both places are looked for on the ground before either is refused as shut.
     let size = ground.size();
     if from >= size {
         return Err(Refusal::OffGround { asked: 0 });
@@ -91,41 +72,63 @@ fn check_ends<G: Ground>(ground: &G, from: usize, to: usize, records: usize) -> 
     Ok(())
 }
 
-// The places of the chain that a search found, if they are at most 256.
-fn lay_found<C: Cost>(
-    book: &Book<C>,
+// A route that is asked for, between two places below `size`, over the links of a book with that top level.
+#[derive(Drop)]
+struct Query<'a, C> {
+    divided: DividedBook<'a, C>,
     size: usize,
+    top: usize,
     from: usize,
     to: usize,
-    table: &[SearchRecord<C>],
-) -> Option<Laid>
-    requires near { (size ≤ 256) × (Near (chain_in C.Cost table.now from size to)) }
-    requires middles { MiddlesNear (meaning C.Cost book.now).shortcuts }
-    ensures { LaidOut result (laid_over (meaning C.Cost book.now) (chain_in C.Cost table.now from size to)) }
-{
-    let chain = chain_back(table, size, from, to);
-    lay_out(book, &chain.places[chain.first..])
+    ghost few: { size ≤ 256 },
+    ghost ends: { (from < size) × (to < size) },
 }
 
-// Writes the places into the list and answers the route, if the list has room for them.
-fn hand_over<C: Cost>(
-    laid: &Laid,
-    size: usize,
-    to: usize,
-    table: &[SearchRecord<C>],
-    list: &mut [u16],
-) -> Result<Route<C>, Refusal>
-    requires { (size ≤ length table.now) × (to < size) }
-    ensures { Handed C.Cost size to (places_of laid.now) table.now list.old result list.new }
-{
-    let places = laid.places();
-    if list.len() < places.len() {
-        return Err(Refusal::ListTooShort);
+impl<'a, C: Cost> Query<'a, C> {
+    // Searches the route, and writes its places into the list.
+    fn answer(&self, table: &mut [SearchRecord<C>], list: &mut [u16]) -> Result<Route<C>, Refusal>
+        requires { self.now.size ≤ length table.old }
+        ensures { (land : Land (kind_of C.Cost)) → land.size ≡ self.now.size → routed (kind_of C.Cost) result table.new list.new ≡ searched land (meaning C.Cost self.now.divided.book.now) (search land (meaning C.Cost self.now.divided.book.now) self.now.top self.now.from self.now.to) self.now.from self.now.to table.old list.old }
+    {
+        let links = relevant_links(self.divided.book, self.size, self.top, self.from, self.to);
+        if !find(&links, self.size, self.from, self.to, table) {
+            return Err(Refusal::NoWay);
+        }
+        let Ok(laid) = self.lay_found(table) else {
+            return Err(Refusal::RouteTooLong);
+        };
+        self.hand_over(&laid, table, list)
     }
-    list[0..places.len()].copy_from_slice(places);
-    Ok(Route {
-        cost: table[to].cost,
-        tally: frontier::tally(table, size),
-        length: places.len(),
-    })
+
+    // The places of the chain that a search found, if they are at most 256.
+    fn lay_found(&self, table: &[SearchRecord<C>]) -> Result<Laid, Full>
+        requires { Near (chain_in C.Cost table.now self.now.from self.now.size self.now.to) }
+        ensures { LaidOut result (laid_over (meaning C.Cost self.now.divided.book.now) (chain_in C.Cost table.now self.now.from self.now.size self.now.to)) }
+    {
+        let chain = chain_back(table, self.size, self.from, self.to);
+        self.divided.lay_out(chain.places())
+    }
+
+    // Writes the places into the list and answers the route, if the list has room for them.
+    fn hand_over(
+        &self,
+        laid: &Laid,
+        table: &[SearchRecord<C>],
+        list: &mut [u16],
+    ) -> Result<Route<C>, Refusal>
+        requires { self.now.size ≤ length table.now }
+        ensures handed { Handed C.Cost self.now.size self.now.to (places_of laid.now) table.now list.old result list.new }
+        ensures few { length (places_of laid.now) ≤ 256 }
+    {
+        let places = laid.places();
+        if list.len() < places.len() {
+            return Err(Refusal::ListTooShort);
+        }
+        list[..places.len()].copy_from_slice(places);
+        Ok(Route {
+            cost: table[self.to].cost,
+            tally: frontier::tally(table, self.size),
+            length: places.len(),
+        })
+    }
 }

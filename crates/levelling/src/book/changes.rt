@@ -1,10 +1,11 @@
 //! Writing a book.
-ghost use Rattle.std.specs.Prelude.{◌≡◌, length, replicate, nat_lt};
-ghost use Rattle.levelling.specs.Entries.{entered};
+ghost use Rattle.std.specs.Prelude.{◌≡◌, length, is_ok, nat_lt};
 ghost use Rattle.levelling.specs.Meaning.{meaning, blank_book, with_level, with_way, without_way, with_shortcut};
 
 use super::Book;
-use crate::Entry;
+use crate::entries::Entries;
+use crate::{Entry, Full};
+use arrayvec::ArrayVec;
 use cost::Cost;
 use hierarchy::Shortcut;
 
@@ -13,18 +14,10 @@ impl<C: Cost> Book<C> {
     pub fn blank() -> Book<C>
         ensures { meaning C.Cost result ≡ blank_book C.Cost }
     {
-        // The shortcuts from the count on are never read.
-        let unused = Shortcut {
-            smaller: 0,
-            larger: 0,
-            middle: 0,
-            cost: C::zero(),
-        };
         Book {
-            levels: all_zero(),
-            entries: [Entry::Apart; 65536],
-            count: 0,
-            shortcuts: [unused; 2048],
+            levels: [0; 256],
+            entries: Entries::apart(),
+            shortcuts: ArrayVec::new(),
         }
     }
 
@@ -41,9 +34,7 @@ impl<C: Cost> Book<C> {
     pub fn keep_way(&mut self, from: usize, to: usize, cost: C)
         ensures { meaning C.Cost self.new ≡ with_way from to cost (meaning C.Cost self.old) }
     {
-        if from < 256 && to < 256 {
-            self.entries[from * 256 + to] = Entry::Way(cost);
-        }
+        self.entries.set(from, to, Entry::Way(cost));
     }
 
     /// Sets the way from one place to another aside, in a book that has no shortcuts.
@@ -51,43 +42,25 @@ impl<C: Cost> Book<C> {
         ensures { meaning C.Cost self.new ≡ without_way from to (meaning C.Cost self.old) }
     {
         // A shortcut between the two places would have to be entered in the place of the way.
-        if self.count == 0 && from < 256 && to < 256 {
-            self.entries[from * 256 + to] = Entry::Apart;
+        if self.shortcuts.is_empty() {
+            self.entries.set(from, to, Entry::Apart);
         }
     }
 
-    /// Appends a shortcut if there is room for it, and says whether there was.
-    pub fn append(&mut self, shortcut: Shortcut<C>) -> bool
+    /// Appends a shortcut, if there is room for it.
+    pub fn append(&mut self, shortcut: Shortcut<C>) -> Result<(), Full>
         ensures appended { meaning C.Cost self.new ≡ with_shortcut shortcut (meaning C.Cost self.old) }
-        ensures room { result ≡ nat_lt (length (meaning C.Cost self.old).shortcuts) 2048 }
+        ensures room { is_ok result ≡ nat_lt (length (meaning C.Cost self.old).shortcuts) 2048 }
     {
-        if self.count >= 2048 {
-            return false;
+        if self.shortcuts.is_full() {
+            return Err(Full);
         }
-        let number = self.count as u16;
-        self.shortcuts[self.count] = shortcut;
-        self.count += 1;
-        enter(&mut self.entries, shortcut.smaller, shortcut.larger, number);
-        enter(&mut self.entries, shortcut.larger, shortcut.smaller, number);
-        true
-    }
-}
-
-fn all_zero() -> [u8; 256]
-    ensures { result ≡ replicate 256 0 }
-{
-    [0; 256]
-}
-
-// Links two places below 256 by a shortcut, unless they are linked: a way kept and an earlier shortcut come first.
-fn enter<C: Cost>(entries: &mut [Entry<C>; 65536], from: usize, to: usize, number: u16)
-    ensures { entries.new ≡ entered entries.old from to number }
-{
-    if from >= 256 || to >= 256 {
-        return;
-    }
-    let entry = entries[from * 256 + to];
-    if let Entry::Apart = entry {
-        entries[from * 256 + to] = Entry::Shortcut(number);
+        let number = self.shortcuts.len() as u16;
+        self.shortcuts.push(shortcut);
+        self.entries
+            .enter(shortcut.smaller, shortcut.larger, number);
+        self.entries
+            .enter(shortcut.larger, shortcut.smaller, number);
+        Ok(())
     }
 }

@@ -14,26 +14,22 @@ impl<C: Cost> Book<C> {
     pub fn level(&self, place: usize) -> usize
         ensures { result ≡ (meaning C.Cost self.now).level place }
     {
-        if place < 256 {
-            self.levels[place] as usize
-        } else {
-            0
-        }
+        self.levels
+            .get(place)
+            .map_or(0, |level| usize::from(*level))
     }
 
     /// The cost of the link between two of the places below `size`, or none. A book has no links beyond the first 256 places.
     pub fn link(&self, size: usize, from: usize, to: usize) -> Option<C>
         ensures { result ≡ link_among (min size 256) (meaning C.Cost self.now) from to }
     {
-        let size = size.min(256);
         if from >= size || to >= size || from == to {
             return None;
         }
-        let entry = self.entries[from * 256 + to];
-        match entry {
+        match self.entries.between(from, to) {
             Entry::Apart => None,
             Entry::Way(cost) => Some(cost),
-            Entry::Shortcut(number) => Some(self.shortcuts[number as usize].cost),
+            Entry::Shortcut(number) => Some(self.shortcut(usize::from(number))?.cost),
         }
     }
 
@@ -41,17 +37,13 @@ impl<C: Cost> Book<C> {
     pub fn count(&self) -> usize
         ensures { result ≡ length (meaning C.Cost self.now).shortcuts }
     {
-        self.count
+        self.shortcuts.len()
     }
 
     /// Shortcut number k, or none.
     pub fn shortcut(&self, k: usize) -> Option<Shortcut<C>>
         ensures { result ≡ slice_get (meaning C.Cost self.now).shortcuts k }
     {
-        if k < self.count {
-            Some(self.shortcuts[k])
-        } else {
-            None
-        }
+        self.shortcuts.get(k).copied()
     }
 }

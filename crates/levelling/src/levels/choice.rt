@@ -12,23 +12,29 @@ impl Levels {
     {
         Levels { number: 1 }
     }
+}
 
-    /// That many levels. Refused with 8 unless they are 1 to 32.
-    pub fn new(number: usize) -> Result<Levels, Refusal>
-        ensures { Chosen number result }
-    {
-        if number < 1 || number > 32 {
+/// That many levels. Refused with 8 unless they are 1 to 32.
+impl TryFrom<usize> for Levels {
+    type Error = Refusal;
+
+    ghost try_from_gives = { Chosen };
+
+    fn try_from(number: usize) -> Result<Levels, Refusal> {
+        if !(1..=32).contains(&number) {
             return Err(Refusal::LevelsOutOfRange);
         }
         Ok(Levels {
             number: number as u8,
         })
     }
+}
 
-    /// How many levels these are.
-    pub fn number(&self) -> usize
-        ensures { result ≡ levels_in self.now }
-    {
-        self.number as usize
+/// How many levels these are.
+impl From<Levels> for usize {
+    ghost from_gives = { λ levels number. number ≡ levels_in levels };
+
+    fn from(levels: Levels) -> usize {
+        usize::from(levels.number)
     }
 }

@@ -1,11 +1,11 @@
 //! Writing and reading the shortcuts that a visit needs.
-ghost use Rattle.std.specs.Prelude.{◌≡◌, ◌+◌, ◌≤◌, [], ◌∷◌, ◌++◌, length, if◌then◌else◌, nat_lt};
-ghost use Rattle.levelling.specs.Halves.{MiddlesNear};
+ghost use Rattle.std.specs.Prelude.{◌≡◌, ◌+◌, ◌≤◌, [], ◌∷◌, ◌++◌, length, if◌then◌else◌, is_ok, nat_lt};
 ghost use Rattle.levelling.specs.Meaning.{meaning};
 ghost use Rattle.levelling.specs.Listed.{listed, with_all};
 
 use super::Needed;
-use crate::Book;
+use crate::{Book, Full};
+use arrayvec::ArrayVec;
 use cost::Cost;
 use hierarchy::Shortcut;
 
@@ -14,42 +14,32 @@ impl<C: Cost> Needed<C> {
     pub(crate) fn none() -> Needed<C>
         ensures { listed result ≡ [] }
     {
-        // The shortcuts from the count on are never read.
-        let unused = Shortcut {
-            smaller: 0,
-            larger: 0,
-            middle: 0,
-            cost: C::zero(),
-        };
         Needed {
-            shortcuts: [unused; 2048],
-            count: 0,
+            shortcuts: ArrayVec::new(),
         }
     }
 
-    /// Appends a shortcut if there are fewer than `room`, and says whether it did.
-    pub(crate) fn push(&mut self, shortcut: Shortcut<C>, room: usize) -> bool
+    /// Appends a shortcut, if there are fewer than `room`.
+    pub(crate) fn push(&mut self, shortcut: Shortcut<C>, room: usize) -> Result<(), Full>
         requires { room ≤ 2048 }
-        ensures is { result ≡ nat_lt (length (listed self.old)) room }
-        ensures after { listed self.new ≡ (if result then listed self.old ++ (shortcut ∷ []) else listed self.old) }
+        ensures is { is_ok result ≡ nat_lt (length (listed self.old)) room }
+        ensures after { listed self.new ≡ (if is_ok result then listed self.old ++ (shortcut ∷ []) else listed self.old) }
     {
-        if self.count >= room {
-            return false;
+        if self.shortcuts.len() >= room {
+            return Err(Full);
         }
-        self.shortcuts[self.count] = shortcut;
-        self.count += 1;
-        true
+        self.shortcuts.push(shortcut);
+        Ok(())
     }
 
     /// Appends all of them to a book that has room for them.
     pub(crate) fn append_to(&self, book: &mut Book<C>)
-        requires near { MiddlesNear (listed self.now) }
-        requires room { length (meaning C.Cost book.old).shortcuts + length (listed self.now) ≤ 2048 }
+        requires { length (meaning C.Cost book.old).shortcuts + length (listed self.now) ≤ 2048 }
         ensures { meaning C.Cost book.new ≡ with_all (listed self.now) (meaning C.Cost book.old) }
     {
-        for k in 0..self.count {
+        for shortcut in self.shortcuts.as_slice() {
             // There is room for each, so that none is refused.
-            let _ = book.append(self.shortcuts[k]);
+            let _ = book.append(*shortcut);
         }
     }
 }

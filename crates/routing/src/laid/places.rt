@@ -1,8 +1,10 @@
 //! Writing and reading the places of a route.
-ghost use Rattle.std.specs.Prelude.{◌≡◌, ◌<◌, [], ◌∷◌};
+ghost use Rattle.std.specs.Prelude.{◌≡◌, ◌<◌, ◌≤◌, [], ◌∷◌, length};
 ghost use Rattle.routing.specs.Placed.{places_of, Appended};
 
 use super::Laid;
+use arrayvec::ArrayVec;
+use levelling::Full;
 
 impl Laid {
     /// No place yet.
@@ -10,28 +12,23 @@ impl Laid {
         ensures { places_of result ≡ [] }
     {
         Laid {
-            places: [0; 256],
-            count: 0,
+            places: ArrayVec::new(),
         }
     }
 
-    /// Appends a place if there is room for it, and says whether there was.
-    pub fn append(&mut self, place: usize) -> bool
+    /// Appends a place if there is room for it.
+    pub fn append(&mut self, place: usize) -> Result<(), Full>
         requires { place < 256 }
         ensures { Appended result (places_of self.old) (place ∷ []) (places_of self.new) }
     {
-        if self.count >= 256 {
-            return false;
-        }
-        self.places[self.count] = place as u16;
-        self.count += 1;
-        true
+        self.places.try_push(place as u16).map_err(|_| Full)
     }
 
     /// The places in their order.
     pub fn places(&self) -> &[u16]
-        ensures { result.now ≡ places_of self.now }
+        ensures places { result.now ≡ places_of self.now }
+        ensures few { length result.now ≤ 256 }
     {
-        &self.places[..self.count]
+        self.places.as_slice()
     }
 }

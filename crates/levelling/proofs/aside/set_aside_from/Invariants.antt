@@ -4,4 +4,4 @@ use Rattle.levelling.specs.Beaten.{leaves}
 use Rattle.levelling.proofs.aside.set_aside_from.Given as goal
 
 abbrev pub invariant-loop-to : goal.invariant-loop-to
-invariant-loop-to g l = RowWritten (leaves l.beaten l.from) l.to l.from (meaning g.C.Cost l.initial.book) (meaning g.C.Cost l.book)
+invariant-loop-to g l = RowWritten (leaves l.marks) l.to l.from (meaning g.C.Cost l.initial.book) (meaning g.C.Cost l.book)

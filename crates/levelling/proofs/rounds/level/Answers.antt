@@ -9,31 +9,32 @@ pub loop-lower-init : goal.loop-lower-init
 loop-lower-init g c =
     let land = land_of g.G.C.Cost g.G.Ground c.args.ground.now in
     let rule = g.R.Rule.pairs c.args.rule.now in
-    let levels = c.number-lower-end.result in (
+    let levels = c.from-lower-end.result in (
       ap (rounds land rule (levels - 1) 1) c.start-book.ensures,
       λ x. subst (λ n. n ≤ 1) (ap (λ b. b.level x) (sym c.start-book.ensures)) (start-bounded land rule levels x),
     )
 
-pub round-requires : goal.round-requires
-round-requires g c =
-    let few = (g.G.Ground.laws c.args.ground.now).few in (
-      book_fits _ _ g.met.G.C.Cost.narrow g.met.G.C.Cost.small,
-      (
-        (omega (arith, c.size.ensures, few), (omega (arith, c.loop-lower.auto), omega (arith, c.number-lower-end.ensures, c.args.levels.range.1))),
-        c.loop-lower.invariant.1,
-      ),
-    )
+pub invariant_of-round : goal.invariant_of-round
+invariant_of-round g c =
+    let few = (g.G.Ground.laws c.args.ground.now).few in
+    record {
+      few = omega (arith, c.size.ensures, few);
+      low = (omega (arith, c.loop-lower.auto), omega (arith, c.from-lower-end.ensures, c.args.levels.range.1));
+    }
+
+pub run-requires : goal.run-requires
+run-requires g c = (book_fits _ _ g.met.G.C.Cost.narrow g.met.G.C.Cost.small, c.loop-lower.invariant.1)
 
 pub loop-lower-preserved : goal.loop-lower-preserved
 loop-lower-preserved g c =
     let land = land_of g.G.C.Cost g.G.Ground c.args.ground.now in (
-      one-round land (g.R.Rule.pairs c.args.rule.now) c.number-lower-end.result c.loop-lower.lower _ _ (omega arith)
-          (c.round.ensures.is land (sym c.size.ensures)) c.loop-lower.invariant.0,
-      c.round.ensures.bounded,
+      one-round land (g.R.Rule.pairs c.args.rule.now) c.from-lower-end.result c.loop-lower.lower _ _ (omega arith)
+          (c.run.ensures.is land (sym c.size.ensures)) c.loop-lower.invariant.0,
+      c.run.ensures.bounded,
     )
 
 pub returns : goal.returns
 returns g c =
     let land = land_of g.G.C.Cost g.G.Ground c.args.ground.now in
     let rule = g.R.Rule.pairs c.args.rule.now in
-    no_round land rule c.number-lower-end.result c.loop-lower.lower _ (omega arith) c.loop-lower.invariant.0 ∙ ap (levelling land rule) c.number-lower-end.ensures
+    no_round land rule c.from-lower-end.result c.loop-lower.lower _ (omega arith) c.loop-lower.invariant.0 ∙ ap (levelling land rule) c.from-lower-end.ensures

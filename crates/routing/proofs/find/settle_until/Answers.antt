@@ -1,67 +1,52 @@
-use Rattle.std.proofs.Common.{◌≡◌, ◌-◌, true, false, refl, ap, ◌∙◌, arith}
+use Rattle.std.proofs.Common.{refl, sym, ap, ◌∙◌}
 use Rattle.hierarchy.specs.Kinds.{kind_of}
-use Rattle.hierarchy.specs.Searches.{search_on}
-use Rattle.frontier.specs.Fronts.{front_of}
-use Rattle.routing.proofs.Turns.{settled_read, goal_settled, none_waits, turn_more}
+use Rattle.hierarchy.specs.Searches.{nearest, search_on}
+use Rattle.frontier.specs.Searching.{size, front}
+use Rattle.frontier.proofs.Turning.{fewer_left}
+use Rattle.routing.proofs.Turns.{begun, goal_settled, none_waits, turn_more}
 use Rattle.routing.proofs.find.settle_until.Goals as goal
 
-pub loop-turn-init : goal.loop-turn-init
-loop-turn-init g c =
+pub loop-frontier-init : goal.loop-frontier-init
+loop-frontier-init g c =
     let k = g.S.C.Cost in
-    let n = c.args.size in
-    let front = front_of k n c.args.table.now c.args.waiting.now in
-    (ap (λ m. search_on {K = kind_of k} (g.S.Steps.step c.args.graph.now) n c.args.goal m front) (omega arith), refl)
-
-pub returns-then-table-goal : goal.returns-then-table-goal
-returns-then-table-goal g c =
-    let k = g.S.C.Cost in
-    let n = c.args.size in
-    let b = c.args.goal in
-    let t = c.loop-turn.table in
-    let w = c.loop-turn.waiting in
-    let inv = c.loop-turn.invariant in
-    let settled = settled_read k n b t w c.index-table-goal.result true (omega arith) (omega arith) c.if-table-goal.true in
     record {
-      front = goal_settled {K = kind_of k} (g.S.Steps.step c.args.graph.now) n b c.loop-turn._turn (front_of k n t w) _ (omega arith) inv.0 settled;
-      rest = inv.1;
+      same_reference = refl;
+      same_size = refl;
+      left = begun {K = kind_of k} (g.S.Steps.step c.args.graph.now) (size c.args.frontier.now) c.args.goal (front k c.args.frontier.now);
     }
 
-pub returns-in_default : goal.returns-in_default
-returns-in_default g c =
+pub loop-frontier-smaller : goal.loop-frontier-smaller
+loop-frontier-smaller g c =
     let k = g.S.C.Cost in
-    let n = c.args.size in
-    let b = c.args.goal in
-    let t = c.loop-turn.table in
-    let w = c.loop-turn.waiting in
-    let inv = c.loop-turn.invariant in
-    let unsettled = settled_read k n b t w c.index-table-goal.result false (omega arith) (omega arith) c.if-table-goal.false in
+    let frontier = c.loop-frontier.frontier in
+    fewer_left {K = kind_of k} (g.S.Steps.step c.args.graph.now) (size frontier) c.in-Some.place (front k frontier) _
+    c.in-Some.ensures.is c.settle.ensures.front _ c.settle.ensures.size
+
+pub loop-frontier-preserved : goal.loop-frontier-preserved
+loop-frontier-preserved g c =
+    let k = g.S.C.Cost in
+    let n = size c.args.frontier.now in
+    let now = front k c.loop-frontier.frontier in
+    let step = g.S.Steps.step c.args.graph.now in
+    let whole = search_on {K = kind_of k} step n c.args.goal n (front k c.args.frontier.now) in
+    let inv = c.loop-frontier.invariant in
     record {
-      front = none_waits {K = kind_of k} (g.S.Steps.step c.args.graph.now) n b c.loop-turn._turn (front_of k n t w) _ (omega arith) inv.0 unsettled c.in_default.ensures.is;
-      rest = inv.1;
+      same_reference = c.settle.ensures.same_reference ∙ inv.same_reference;
+      same_size = c.settle.ensures.size ∙ inv.same_size;
+      left = turn_more {K = kind_of k} step n c.args.goal now whole inv.left (sym c.loop-frontier-test.ensures)
+          c.in-Some.place (c.in-Some.ensures.is ∙ ap (nearest now) inv.same_size) _ c.settle.ensures.front;
     }
 
-pub loop-turn-preserved : goal.loop-turn-preserved
-loop-turn-preserved g c =
+pub returns-in_default-clause-front : goal.returns-in_default-clause-front
+returns-in_default-clause-front g c =
     let k = g.S.C.Cost in
-    let n = c.args.size in
-    let b = c.args.goal in
-    let t = c.loop-turn.table in
-    let w = c.loop-turn.waiting in
-    let inv = c.loop-turn.invariant in
-    let unsettled = settled_read k n b t w c.index-table-goal.result false (omega arith) (omega arith) c.if-table-goal.false in (
-      turn_more {K = kind_of k} (g.S.Steps.step c.args.graph.now) n b c.loop-turn._turn (front_of k n t w) _ (omega arith) inv.0 unsettled
-          c.in-Some.place c.in-Some.ensures.is _ c.settle.ensures.front,
-      c.settle.ensures.rest ∙ inv.1,
-    )
+    let now = front k c.loop-frontier.frontier in
+    let inv = c.loop-frontier.invariant in
+    none_waits {K = kind_of k} (g.S.Steps.step c.args.graph.now) (size c.args.frontier.now) c.args.goal now _ inv.left
+    (sym c.loop-frontier-test.ensures) (c.in_default.ensures.is ∙ ap (nearest now) inv.same_size)
 
-pub returns : goal.returns
-returns g c =
+pub returns-clause-front : goal.returns-clause-front
+returns-clause-front g c =
     let k = g.S.C.Cost in
-    let n = c.args.size in
-    let front = front_of k n c.loop-turn.table c.loop-turn.waiting in
-    let over : 0 ≡ n - c.loop-turn._turn = omega arith in
-    let inv = c.loop-turn.invariant in
-    record {
-      front = ap (λ m. search_on {K = kind_of k} (g.S.Steps.step c.args.graph.now) n c.args.goal m front) over ∙ inv.0;
-      rest = inv.1;
-    }
+    goal_settled {K = kind_of k} (g.S.Steps.step c.args.graph.now) (size c.args.frontier.now) c.args.goal (front k c.loop-frontier.frontier) _
+    c.loop-frontier.invariant.left (sym c.loop-frontier-test.ensures)

@@ -1,31 +1,19 @@
 -- Shown: the shortcut comes last if there is room, and nothing else changes.
-use Rattle.std.proofs.Common.{◌≡◌, true, ltb, length, take, sym, refl, ap, ◌∙◌, arith}
-use Rattle.std.proofs.lemmas.List.{length-set}
-use Rattle.std.proofs.lemmas.Bool.{lt-ltb, cond-true}
-use Rattle.levelling.proofs.Appending.{counts, last_written, as_many, keeps_ways, still_indexed}
+use Rattle.std.proofs.Common.{◌≡◌, true, ltb, length, sym, refl, ◌∙◌, arith}
+use Rattle.std.proofs.lemmas.Bool.{cond-true}
+use Rattle.std.proofs.lemmas.Bool.Decides.{nat_tests}
+use Rattle.levelling.proofs.Appending.{keeps_ways, still_indexed}
 use Rattle.levelling.proofs.Writing.{alike}
 use Rattle.levelling.proofs.book.Book.append.Goals as goal
 
-pub invariant_of-self : goal.invariant_of-self
-invariant_of-self g c =
-    let book = c.args.self.now in
-    let s = c.args.shortcut in
-    let room = c.if-self-ge2048.false in
-    let there = c.enter.ensures in
-    let back = c.enter-2.ensures in record {
-      sizes = (book.sizes.0, as_many book s room there back, length-set book.shortcuts book.count s ∙ book.sizes.2);
-      room = omega arith;
-      indexed = still_indexed book s room there back;
-    }
+pub invariant_of-self-clause-indexed : goal.invariant_of-self-clause-indexed
+invariant_of-self-clause-indexed g c =
+    rw c.push.ensures.items
+    (still_indexed c.args.self.now c.args.shortcut c.enter.new.self _ (rw c.len-number.ensures.value at c.enter.ensures) (rw c.len-number.ensures.value at c.enter-2.ensures))
 
-pub returns : goal.returns
-returns g c =
+pub returns-clause-appended : goal.returns-clause-appended
+returns-clause-appended g c =
     let book = c.args.self.now in
-    let s = c.args.shortcut in
-    let room = c.if-self-ge2048.false in
-    let below : ltb (length (take book.count book.shortcuts)) 2048 ≡ true =
-    ap (λ n. ltb n 2048) (counts book s room) ∙ lt-ltb book.count 2048 room in
-    record {
-      appended = alike refl (keeps_ways book s room c.enter.ensures c.enter-2.ensures) (last_written book s room ∙ sym (cond-true _ _ _ below));
-      room = sym below;
-    }
+    let ways = keeps_ways book c.args.shortcut c.enter.new.self _ (rw c.len-number.ensures.value at c.enter.ensures) (rw c.len-number.ensures.value at c.enter-2.ensures) in
+    let fits : ltb (length book.shortcuts.items) 2048 ≡ true = grind (arith, nat_tests, c.if-is_full.false, c.is_full.ensures.value, c.is_full.ensures.fits) in
+    alike refl ways (c.push.ensures.items ∙ sym (cond-true _ _ _ fits))

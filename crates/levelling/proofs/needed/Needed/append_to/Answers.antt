@@ -1,18 +1,16 @@
-use Rattle.std.proofs.Common.{◌≡◌, get_or, take, ap, ◌∙◌, arith}
-use Rattle.std.proofs.lemmas.List.{get_or_default}
+use Rattle.std.proofs.Common.{length, ap, ◌∙◌, take_all, arith}
 use Rattle.levelling.specs.Meaning.{meaning}
 use Rattle.levelling.specs.Listed.{with_all}
 use Rattle.levelling.proofs.AppendingAll.{one_more}
 use Rattle.levelling.proofs.needed.Needed.append_to.Goals as goal
 
-pub loop-k-preserved : goal.loop-k-preserved
-loop-k-preserved g c =
-    let self = c.args.self.now in
-    one_more (meaning g.C.Cost c.args.book.now) self.shortcuts self.count c.loop-k.k (get_or self.shortcuts c.loop-k.k c.index-self-k.result) c.loop-k-test.true (omega arith)
-    (get_or_default self.shortcuts c.loop-k.k _ _ (omega arith)) c.requires.near c.requires.room (meaning g.C.Cost c.loop-k.book) _ c.loop-k.invariant c.append.ensures.appended
+pub loop-shortcut-preserved : goal.loop-shortcut-preserved
+loop-shortcut-preserved g c =
+    let same = c.as_slice-shortcut-items.ensures.value in
+    one_more (meaning g.C.Cost c.args.book.now) c.args.self.now.shortcuts.items c.loop-shortcut.shortcut-index c.shortcut-item.result (omega (arith, ap length same)) (rw same at c.shortcut-item.is)
+    c.requires _ _ c.loop-shortcut.invariant c.append.ensures.appended
 
 pub returns : goal.returns
 returns g c =
-    let self = c.args.self.now in
-    let all : c.loop-k.k ≡ self.count = omega arith in
-    c.loop-k.invariant ∙ ap (λ k. with_all (take k self.shortcuts) (meaning g.C.Cost c.args.book.now)) all
+    let same = c.as_slice-shortcut-items.ensures.value in
+    c.loop-shortcut.invariant ∙ ap (λ l. with_all l (meaning g.C.Cost c.args.book.now)) (take_all c.loop-shortcut.shortcut-index c.args.self.now.shortcuts.items (omega (arith, ap length same)))

@@ -1,4 +1,0 @@
-use Rattle.routing.proofs.layout.+lay.Given as goal
-
-abbrev pub decreases-lay : goal.decreases-lay
-decreases-lay g l = l.before

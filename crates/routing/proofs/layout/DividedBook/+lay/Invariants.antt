@@ -1,0 +1,4 @@
+use Rattle.routing.proofs.layout.DividedBook.+lay.Given as goal
+
+abbrev pub decreases-lay : goal.decreases-lay
+decreases-lay g l = l.before
