@@ -110,11 +110,14 @@ kept : (x : Octile) → x.straight < 16777216 → within 16777215 x.straight x.d
 kept x r =
     ⊎_elim (λ h. h) (λ h. absurd (grind (arith, nat_tests))) (or_cases (within 16777215 x.straight x.diagonal) _ x.capped)
 
+octile-back : (x : Octile) → x.straight < 16777216 → octile x.straight x.diagonal ≡ x
+octile-back x r = let h = kept x r in same_octile _ _ (cond-true _ _ _ h) (cond-true _ _ _ h)
+
 of_word : (x : Octile) → x.straight < 16777216 → unword_o (x.straight * 4294967296 + x.diagonal) ≡ x
 of_word x r =
-    let k = kept x r in
-    let f = few x in
-    same_octile _ _ (grind (arith, nat_tests)) (grind (arith, nat_tests))
+    let d : (x.straight * 4294967296 + x.diagonal) / 4294967296 ≡ x.straight = omega (arith, few x) in
+    let e : (x.straight * 4294967296 + x.diagonal) % 4294967296 ≡ x.diagonal = omega (arith, few x) in
+    (λ i. octile (d i) (e i)) ∙ octile-back x r
 
 back : (x : Octile) → unword_o (word_o x) ≡ x
 back x =

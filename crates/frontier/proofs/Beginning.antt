@@ -1,13 +1,13 @@
 -- Shown: rows that are cleared, and in which the start is then reached, are the front that a search begins with.
-use Rattle.std.proofs.Common.{◌≡◌, ℕ, ◌<◌, ◌≤◌, Bool, true, false, cond, List, length, get_or, replicate, set, Some, None, sym, ap, ◌∙◌, ⊎_elim, arith}
-use Rattle.std.proofs.lemmas.List.{get_or-set_same, get_or-set_other, get_or-replicate, length-replicate}
+use Rattle.std.proofs.Common.{◌≡◌, ℕ, ◌<◌, ◌≤◌, Bool, true, false, cond, List, length, get_or, drop, set, Some, None, sym, ap, ◌∙◌, ⊎_elim, arith}
+use Rattle.std.proofs.lemmas.List.{get_or-set_same, get_or-set_other, drop-set-lt}
 use Rattle.std.proofs.lemmas.Bool.{eq-eqb, ne_eqb, cases_eq, cases_lt}
 use Rattle.cost.specs.declared.Cost.{Ghosts as Costs}
 use Rattle.hierarchy.specs.declared.SearchRecord.{SearchRecord}
 use Rattle.hierarchy.specs.Kinds.{kind_of}
 use Rattle.hierarchy.specs.Searches.{Front, begin}
 use Rattle.frontier.specs.Fronts.{blank, reached_at, front_of, renewed}
-use Rattle.frontier.proofs.Renewals.{renewed-below}
+use Rattle.frontier.proofs.Renewals.{renewed-below, renewed_rest}
 use Rattle.frontier.proofs.Spots.{spot, front_same, spot_in, spot_out}
 
 module _ {C : Type 0} (k : Costs C) where
@@ -40,14 +40,16 @@ module _ {C : Type 0} (k : Costs C) where
     start_is : start ≡ begin (kind_of k) a
     start_is = front_same start (begin (kind_of k) a) (λ x. ⊎_elim (at x) (off x) (cases_eq x a))
 
-  -- of a row that is cleared, with no flag set, and in which the start is then reached
-  module _ (m n a : ℕ) (same : m ≡ n) (ha : a < n) (table t u : List (SearchRecord C)) (N : ℕ) (o : List Bool) (ht : n ≤ length t) (hw : n ≤ N)
-      (et : t ≡ renewed n (λ _. blank k) table)
-      (z : C) (ez : z ≡ k.zero) (eu : u ≡ set t a (reached_at z a)) (eo : o ≡ set (replicate N false) a true) where
-    pub begun : front_of k m u o ≡ begin (kind_of k) a
-    begun =
-        (λ i. front_of k (same i) (eu i) (eo i))
-        ∙ (λ i. front_of k n (set t a (reached_at (ez i) a)) (set (replicate N false) a true))
-        ∙ start_is n a ha t (replicate N false) ht (omega (arith, length-replicate {A = Bool}))
-        (λ x h. ap (λ l. get_or l x (blank k)) et ∙ renewed-below (λ _. blank k) table n x (blank k) h)
-        (λ x h. get_or-replicate N x false false (omega arith))
+  -- of rows that are cleared, and then of rows in which the start is reached
+  module _ (n a : ℕ) (ha : a < n) (table t u : List (SearchRecord C)) (waiting w o : List Bool) (ht : n ≤ length t) (hw : n ≤ length w)
+      (et : t ≡ renewed n (λ _. blank k) table) (ew : w ≡ renewed n (λ _. false) waiting)
+      (z : C) (ez : z ≡ k.zero) (eu : u ≡ set t a (reached_at z a)) (eo : o ≡ set w a true) where
+    pub begun : (front_of k n u o ≡ begin (kind_of k) a) × (drop n u ≡ drop n table)
+    begun = (
+      (λ i. front_of k n (eu i) (eo i))
+          ∙ (λ i. front_of k n (set t a (reached_at (ez i) a)) (set w a true))
+          ∙ start_is n a ha t w ht hw
+          (λ x h. ap (λ l. get_or l x (blank k)) et ∙ renewed-below (λ _. blank k) table n x (blank k) h)
+          (λ x h. ap (λ l. get_or l x false) ew ∙ renewed-below (λ _. false) waiting n x false h),
+      ap (drop n) eu ∙ drop-set-lt n t a _ ha ∙ ap (drop n) et ∙ renewed_rest (λ _. blank k) table n,
+    )

@@ -26,12 +26,12 @@ module _ {C : Type 0} (k : Costs C) where
         let r = get_or table x (blank k) in
         ap record_of (spot_in k n table waiting x (get_or waiting x false) r h refl refl) ∙ ended (get_or waiting x false) r.settled r.cost r.predecessor
 
-    -- one record more, which is read at a default d
+    -- one record more, which is read as d
     pub finish_more : x < length table → (t : List (SearchRecord C)) → t ≡ table_after (front_of k n table waiting) x table →
-        (d r : SearchRecord C) → r ≡ cond (get_or t x d).settled (get_or t x d) (blank k) → set t x r ≡ table_after (front_of k n table waiting) (x + 1) table
-    finish_more ht t et d r er =
+        (d r : SearchRecord C) → d ≡ get_or t x d → r ≡ cond d.settled d (blank k) → set t x r ≡ table_after (front_of k n table waiting) (x + 1) table
+    finish_more ht t et d r ed er =
         let f = recorded (front_of k n table waiting) in
-        let same = ap (λ u. get_or u x d) et ∙ renewed_above f table x x d (omega arith) ∙ get_or_default table x d (blank k) ht in
+        let same = ed ∙ ap (λ u. get_or u x d) et ∙ renewed_above f table x x d (omega arith) ∙ get_or_default table x d (blank k) ht in
         (λ i. set (et i) x (er i))
         ∙ ap (set (renewed x f table) x) ((λ i. cond (same i).settled (same i) (blank k)) ∙ sym recorded_is)
         ∙ renewed_more f table x ht

@@ -1,6 +1,7 @@
 pub mod Renewals
 pub mod Spots
 pub mod Beginning
+pub mod Nearing
 pub mod Settling
 pub mod Finishing
 pub mod Tallying

@@ -1,6 +1,6 @@
 -- Shown: a row whose first n are made anew, one more at a time, and what stands at each place of it.
 use Rattle.std.proofs.Common.{◌≡◌, ℕ, zero, suc, ◌+◌, ◌-◌, ◌<◌, ◌≤◌, List, [], ◌∷◌, ◌++◌, map, length, get_or, drop, set, sym, ap, ◌∙◌, ⊎_elim, add-one, arith}
-use Rattle.std.proofs.lemmas.List.{append_assoc, map_push, length-map, length_push, drop_more, set_at, get_or_append_left, get_or-append_right, get_or-drop, get_or-map, get_or_push}
+use Rattle.std.proofs.lemmas.List.{append_assoc, map_push, length-map, length_push, drop_more, drop_at, set_at, get_or_append_left, get_or-append_right, get_or-drop, get_or-map, get_or_push}
 use Rattle.std.proofs.lemmas.Bool.{cases_eq}
 use Rattle.hierarchy.specs.Shortest.{below}
 use Rattle.frontier.specs.Fronts.{renewed}
@@ -41,3 +41,6 @@ module _ {A : Type 0} (f : ℕ → A) (xs : List A) where
       get_or-append_right (map f (below n)) (drop n xs) n x d (length_made n) h
       ∙ get_or-drop n xs (x - n) d
       ∙ ap (λ i. get_or xs i d) (omega arith)
+
+  pub renewed_rest : (n : ℕ) → drop n (renewed n f xs) ≡ drop n xs
+  renewed_rest n = drop_at (map f (below n)) (drop n xs) n (length_made n)

@@ -1,15 +1,15 @@
 -- Shown: settling a place and offering to every other is settling in the front.
 --   records_after, flags_after  what every place has after the offers
 --   answer  what a spot becomes by an offer
-use Rattle.std.proofs.Common.{◌≡◌, ℕ, ◌+◌, ◌<◌, ◌≤◌, Bool, true, false, cond, not, ◌&&◌, ◌||◌, eqb, List, length, get_or, set, Some, None, Option, sym, refl, ap, ◌∙◌, ⊎_elim, arith}
-use Rattle.std.proofs.lemmas.List.{get_or-set_same, get_or-set_other}
+use Rattle.std.proofs.Common.{◌≡◌, ℕ, ◌+◌, ◌<◌, ◌≤◌, Bool, true, false, cond, not, ◌&&◌, ◌||◌, eqb, List, length, get_or, drop, set, Some, None, Option, sym, refl, ap, ◌∙◌, ⊎_elim, arith}
+use Rattle.std.proofs.lemmas.List.{get_or-set_same, get_or-set_other, set-get_or, drop-set-lt}
 use Rattle.std.proofs.lemmas.Bool.{eq-eqb, ne_eqb, cases_eq, cases_lt}
 use Rattle.cost.specs.declared.Cost.{Ghosts as Costs}
 use Rattle.hierarchy.specs.declared.SearchRecord.{SearchRecord}
 use Rattle.hierarchy.specs.Kinds.{Kind, Price, kind_of, cheaper, add}
 use Rattle.hierarchy.specs.Searches.{Front, settle}
-use Rattle.frontier.specs.Fronts.{blank, reached_at, front_of, renewed, Inside, offered, flagged}
-use Rattle.frontier.proofs.Renewals.{renewed_more, renewed-below, renewed_above}
+use Rattle.frontier.specs.Fronts.{blank, reached_at, front_of, renewed, Inside, accepts, offered, flagged}
+use Rattle.frontier.proofs.Renewals.{renewed_more, renewed-below, renewed_above, renewed_rest}
 use Rattle.frontier.proofs.Spots.{Spot, spot, seen, front_same, spot_in, spot_out, spot_waits}
 
 abbrev pub answer : (K : Kind) → ℕ → Price K → Spot K → Spot K
@@ -57,6 +57,34 @@ module _ {C : Type 0} (k : Costs C) where
   settled_flag u flag d None = refl
   settled_flag u flag d (Some c) = refl
 
+  -- an offer from v, which costs c, by a step q: one that is refused changes nothing
+  module _ (v i : ℕ) (table : List (SearchRecord C)) (waiting : List Bool) (c : C) (q : Option C) where
+    abbrev r : SearchRecord C
+    r = get_or table i (blank k)
+
+    abbrev flag : Bool
+    flag = get_or waiting i false
+
+    abbrev p : Option C
+    p = add (kind_of k) (Some c) q
+
+    abbrev Unchanged : Type 0
+    Unchanged = (table ≡ set table i (offered k v r flag p)) × (waiting ≡ set waiting i (flagged k r flag p))
+
+    unchanged : offered k v r flag p ≡ r → flagged k r flag p ≡ flag → Unchanged
+    unchanged e f = (sym (set-get_or table i (blank k)) ∙ ap (set table i) (sym e), sym (set-get_or waiting i false) ∙ ap (set waiting i) (sym f))
+
+    pub no_offer : None ≡ q → Unchanged
+    no_offer h =
+        unchanged (λ j. offered k v r flag (add (kind_of k) (Some c) (sym h j))) (λ j. flagged k r flag (add (kind_of k) (Some c) (sym h j)))
+
+    pub refused : (d sum : C) → Some d ≡ q → sum ≡ k.plus c d → false ≡ accepts k r flag sum → Unchanged
+    refused d sum h e f =
+        let is : p ≡ Some sum = (λ j. add (kind_of k) (Some c) (sym h j)) ∙ ap Some (sym e) in
+        unchanged
+        (ap (offered k v r flag) is ∙ ap (λ b. cond b (reached_at sum v) r) (sym f))
+        (ap (flagged k r flag) is ∙ ap (λ b. cond b true flag) (sym f))
+
   module _ (step : ℕ → Option C) (v : ℕ) (c : C) (table : List (SearchRecord C)) (waiting : List Bool) where
     abbrev pub records_after : ℕ → SearchRecord C
     records_after x = offered k v (get_or table x (blank k)) (get_or waiting x false) (add (kind_of k) (Some c) (step x))
@@ -88,19 +116,19 @@ module _ {C : Type 0} (k : Costs C) where
     abbrev old : SearchRecord C
     old = get_or table v (blank k)
 
-    -- the rows as v is settled, and the front of p places after m offers; s is the record as it was read
+    -- the rows as v is settled, and the front after m offers; r and s are the record as it was read
     abbrev pub marked : SearchRecord C → List (SearchRecord C)
     marked s = set table v (record { settled = true; cost = s.cost; predecessor = s.predecessor })
 
     abbrev pub idle : List Bool
     idle = set waiting v false
 
-    abbrev later : ℕ → ℕ → SearchRecord C → Front (kind_of k)
-    later p m s =
-        front_of k p (renewed m (records_after (step v) v s.cost (marked s) idle) (marked s)) (renewed m (flags_after (step v) v s.cost (marked s) idle) idle)
+    abbrev later : ℕ → SearchRecord C → SearchRecord C → Front (kind_of k)
+    later m r s =
+        front_of k n (renewed m (records_after (step v) v r.cost (marked s) idle) (marked s)) (renewed m (flags_after (step v) v r.cost (marked s) idle) idle)
 
     abbrev after : Front (kind_of k)
-    after = later n n old
+    after = later n old old
 
     abbrev before : Front (kind_of k)
     before = front_of k n table waiting
@@ -151,8 +179,12 @@ module _ {C : Type 0} (k : Costs C) where
     settle_front =
         front_same after (settle step before v) (λ x. ⊎_elim (at x) (λ ne. ⊎_elim (off x ne) (out x ne) (cases_lt x n)) (cases_eq x v))
 
-    module _ (p m : ℕ) (s : SearchRecord C) (t : List (SearchRecord C)) (w : List Bool) (same : p ≡ n) (all : m ≡ n) (es : s ≡ old)
-        (et : t ≡ renewed m (records_after (step v) v s.cost (marked s) idle) (marked s))
-        (ew : w ≡ renewed m (flags_after (step v) v s.cost (marked s) idle) idle) where
-      pub settled : front_of k p t w ≡ settle step before v
-      settled = (λ i. front_of k p (et i) (ew i)) ∙ (λ i. later (same i) (all i) (es i)) ∙ settle_front
+    module _ (m : ℕ) (r s : SearchRecord C) (t : List (SearchRecord C)) (w : List Bool) (all : m ≡ n) (er : r ≡ old) (es : s ≡ old)
+        (et : t ≡ renewed m (records_after (step v) v r.cost (marked s) idle) (marked s))
+        (ew : w ≡ renewed m (flags_after (step v) v r.cost (marked s) idle) idle) where
+      pub settled : (front_of k n t w ≡ settle step before v) × (drop n t ≡ drop n table)
+      settled =
+          let f = records_after (step v) v r.cost (marked s) idle in (
+            (λ i. front_of k n (et i) (ew i)) ∙ (λ i. later (all i) (er i) (es i)) ∙ settle_front,
+            ap (drop n) et ∙ ap (λ j. drop n (renewed j f (marked s))) all ∙ renewed_rest f (marked s) n ∙ drop-set-lt n table v _ hv,
+          )

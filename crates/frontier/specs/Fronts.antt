@@ -5,6 +5,7 @@
 --   Inside      steps lead only to places below n
 --   Waiting     a place below n whose flag is set, or no place
 --   renewed     the first n of a row made anew by place; the others are untouched
+--   closer      of the best place so far and a later one, the one to settle first
 --   accepts     a place takes an offered cost
 --   offered     the record of a place after an offer
 --   flagged     its flag after an offer
@@ -39,6 +40,11 @@ abbrev pub renewed : {A : Type 0} → ℕ → (ℕ → A) → List A → List A
 renewed n f xs = map f (below n) ++ drop n xs
 
 module _ {C : Type 0} (k : Costs C) where
+  abbrev pub closer : List (SearchRecord C) → List Bool → Option ℕ → ℕ → Option ℕ
+  closer table waiting None x = cond (slice_index_or waiting x false && not (get_or table x (blank k)).settled) (Some x) None
+  closer table waiting (Some y) x =
+      cond (slice_index_or waiting x false && not (get_or table x (blank k)).settled && k.less (get_or table x (blank k)).cost (get_or table y (blank k)).cost) (Some x) (Some y)
+
   abbrev pub accepts : SearchRecord C → Bool → C → Bool
   accepts r flag c = not r.settled && (not flag || k.less c r.cost)
 

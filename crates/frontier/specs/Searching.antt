@@ -1,14 +1,12 @@
 -- What a frontier says of its search.
 --   size   the number of places
 --   front  how far the search has come
---   record_of, flag_of  the record and the flag of a place
 --   Waits  a place of the frontier that waits, or no place
-use Rattle.std.specs.Prelude.{ℕ, Bool, false, length, Option, slice_index_or}
+use Rattle.std.specs.Prelude.{ℕ, length, Option}
 use Rattle.cost.specs.declared.Cost.{Ghosts as Costs}
-use Rattle.hierarchy.specs.declared.SearchRecord.{SearchRecord}
 use Rattle.hierarchy.specs.Kinds.{kind_of}
 use Rattle.hierarchy.specs.Searches.{Front}
-use Rattle.frontier.specs.Fronts.{blank, front_of, Waiting}
+use Rattle.frontier.specs.Fronts.{front_of, Waiting}
 use Rattle.frontier.specs.declared.Frontier.{Frontier}
 
 module _ {C : Type 0} {N : ℕ} where
@@ -17,13 +15,6 @@ module _ {C : Type 0} {N : ℕ} where
 
   abbrev pub front : (k : Costs C) → Frontier C N → Front (kind_of k)
   front k frontier = front_of k (size frontier) frontier.table.now frontier.waiting
-
-  -- of a place below the size
-  abbrev pub record_of : Costs C → Frontier C N → ℕ → SearchRecord C
-  record_of k frontier x = slice_index_or frontier.table.now x (blank k)
-
-  abbrev pub flag_of : Frontier C N → ℕ → Bool
-  flag_of frontier x = slice_index_or frontier.waiting x false
 
   abbrev pub Waits : Frontier C N → Option ℕ → Type 0
   Waits frontier place = Waiting (size frontier) frontier.waiting place

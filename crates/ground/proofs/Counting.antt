@@ -30,11 +30,15 @@ count_same p q (suc n) e = rw (count_same p q n (λ k l. e k (omega arith)), e n
 pub count_free : (s : ℕ → Bool) (n : ℕ) → count (λ k. not (s k)) n ≡ count (free_under n s) n
 count_free s n = count_same _ _ n (λ k l. rw (lt-ltb k n l))
 
+pub ones_below : (p : ℕ → Bool) (n : ℕ) → sum (map (λ k. cond (p k) 1 0) (range_with_len 0 n)) ≡ count p n
+ones_below p zero = refl
+ones_below p (suc n) = simp add-one at (sum_by-map-range_with_len_more (λ x. x) (λ k. cond (p k) 1 0) 0 n n (omega arith)) ∙ ap (λ m. m + cond (p n) 1 0) (ones_below p n)
+
 pub pairs_below : (p : ℕ → ℕ → Bool) (n : ℕ) → sum (map (λ k. count (λ a. p a k) k) (range_with_len 0 n)) ≡ count_pairs p n
 pairs_below p zero = refl
 pairs_below p (suc n) = simp add-one at (sum_by-map-range_with_len_more (λ x. x) (λ k. count (λ a. p a k) k) 0 n n (omega arith)) ∙ ap (λ m. m + count (λ a. p a n) n) (pairs_below p n)
 
-count_few : (p : ℕ → Bool) (n : ℕ) → count p n ≤ n
+pub count_few : (p : ℕ → Bool) (n : ℕ) → count p n ≤ n
 count_few p zero = omega arith
 count_few p (suc n) = grind (arith, count_few p n)
 

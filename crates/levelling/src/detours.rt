@@ -1,32 +1,31 @@
 //! Detours: arching chains between two neighbours of a visited place that do not pass it.
-ghost use Rattle.std.specs.Prelude.{◌+◌};
 ghost use Rattle.hierarchy.specs.Books.{link_among};
 ghost use Rattle.levelling.specs.Meaning.{meaning};
 ghost use Rattle.levelling.specs.Detours.{detour_steps};
 
-use crate::visit::Visit;
+use crate::links::BookLinks;
 use cost::Cost;
 use frontier::Steps;
 
-/// The links that detours from `first` round the visited place go by: an inner place of such a chain stands at the top level.
+/// The links that detours from `first` round `without` go by: an inner place of such a chain stands at the top level.
+// numbers of its own and no visit, from which each step would read them again
 #[derive(Drop)]
 pub struct Detours<'a, C> {
-    pub(crate) visit: &'a Visit<'a, C>,
+    pub(crate) links: BookLinks<'a, C>,
+    pub(crate) top: usize,
     pub(crate) first: usize,
+    pub(crate) without: usize,
 }
 
 impl<'a, C: Cost> Steps for Detours<'a, C> {
     type C = C;
 
-    ghost step = { λ g. detour_steps (link_among g.visit.now.links.size (meaning C.Cost g.visit.now.links.book.now)) (meaning C.Cost g.visit.now.links.book.now).level (g.visit.now.lower + 1) g.visit.now.middle g.first };
+    ghost step = { λ g. detour_steps (link_among g.links.size (meaning C.Cost g.links.book.now)) (meaning C.Cost g.links.book.now).level g.top g.without g.first };
 
     fn step(&self, from: usize, to: usize) -> Option<C> {
-        let visit = self.visit;
-        if to == visit.middle
-            || (from != self.first && visit.links.level(from) != visit.lower + 1)
-        {
+        if to == self.without || (from != self.first && self.links.level(from) != self.top) {
             return None;
         }
-        visit.links.link(from, to)
+        self.links.link(from, to)
     }
 }

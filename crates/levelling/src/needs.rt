@@ -6,6 +6,7 @@ ghost use Rattle.levelling.specs.Needs.{MarksNeed, is_open, is_beyond, Covers, B
 ghost use Rattle.levelling.specs.Priced.{reached_within};
 
 use crate::detours::Detours;
+use crate::links::BookLinks;
 use crate::prices::{dearer, is_at_most};
 use crate::reach::records_within;
 use crate::visit::Visit;
@@ -68,8 +69,13 @@ impl<'a, C: Cost> Visit<'a, C> {
         ensures { Beyond C.Cost self.now.links.size (meaning C.Cost self.now.links.book.now) self.now.middle first self.now.lower bound candidates.now result }
     {
         let detours = Detours {
-            visit: &*self,
+            links: BookLinks {
+                book: self.links.book,
+                size: self.links.size,
+            },
+            top: self.lower + 1,
             first,
+            without: self.middle,
         };
         let records = records_within(&detours, self.links.size, first, bound);
         let is_beyond = |second: usize|

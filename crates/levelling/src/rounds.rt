@@ -19,7 +19,8 @@ use rule::Rule;
 pub fn level<G: Ground, R: Rule>(ground: &G, rule: &R, levels: Levels) -> Book<G::C>
     ensures { meaning G.C.Cost result ≡ levelling (land_of G.C.Cost G.Ground ground.now) (R.Rule.pairs rule.now) (levels_in levels) }
 {
-    let mut book = start(ground);
+    let mut book = Book::blank();
+    start(ground, &mut book);
     for lower in 1..usize::from(levels) {
         let round = Round {
             rule,

@@ -2,22 +2,22 @@
 ghost use Rattle.std.specs.Prelude.{◌≡◌};
 ghost use Rattle.hierarchy.specs.Lands.{land_of};
 ghost use Rattle.hierarchy.specs.Levels.{start as start_of_lem};
-ghost use Rattle.levelling.specs.Meaning.{meaning};
+ghost use Rattle.levelling.specs.Meaning.{meaning, blank_book};
 ghost use Rattle.levelling.specs.Begun.{LevelsEntered, RowWritten, RowsWritten, enters};
 
 use crate::Book;
 use crate::aside::set_beaten_aside;
 use ground::Ground;
 
-/// The book of a ground before the first round.
-pub(crate) fn start<G: Ground>(ground: &G) -> Book<G::C>
-    ensures { meaning G.C.Cost result ≡ start_of_lem (land_of G.C.Cost G.Ground ground.now) }
+/// Writes into a blank book what the book of a ground has before the first round.
+// a book that is lent and none that is answered, since it would be copied
+pub(crate) fn start<G: Ground>(ground: &G, book: &mut Book<G::C>)
+    requires { meaning G.C.Cost book.old ≡ blank_book G.C.Cost }
+    ensures { meaning G.C.Cost book.new ≡ start_of_lem (land_of G.C.Cost G.Ground ground.now) }
 {
-    let mut book = Book::blank();
-    enter_levels(ground, &mut book);
-    enter_ways(ground, &mut book);
-    set_beaten_aside(&mut book, ground.size());
-    book
+    enter_levels(ground, book);
+    enter_ways(ground, book);
+    set_beaten_aside(book, ground.size());
 }
 
 // Gives shut places level 0 and free ones level 1.

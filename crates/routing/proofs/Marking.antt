@@ -1,7 +1,9 @@
 -- Shown: what is marked once one place is, once the places to which a place goes up are, and once those of a whole level are.
 --   MarksBelow  of the places below i, those to which p goes up are marked besides
-use Rattle.std.proofs.Common.{◌≡◌, ℕ, ◌+◌, ◌<◌, Bool, true, false, cond, not, ◌&&◌, ◌||◌, eqb, ltb, ◌⊎◌, List, length, get_or, set, is_some, Some, None, Option, sym, refl, ap, ◌∙◌, subst, inl, inr, ⊎_elim, arith, length-set, get_or-set_other, get_or-set_same}
-use Rattle.std.proofs.lemmas.Bool.{true≢false, cases_eq, and_parts, and_from, or_cases, or_left, or_right, cases_lt, ltb-true, lt-ltb, le-ltb}
+use Rattle.std.proofs.Common.{◌≡◌, ℕ, ◌+◌, ◌<◌, ◌≤◌, Bool, true, false, cond, not, ◌&&◌, ◌||◌, eqb, ltb, ◌⊎◌, List, length, get_or, set, replicate, is_some, Some, None, Option, sym, refl, ap, ◌∙◌, subst, inl, inr, ⊎_elim, arith, length-set, get_or-set_other, get_or-set_same}
+use lib.ListN.{length-replicate, get_or-replicate}
+use Rattle.std.proofs.lemmas.Bool.{true≢false, cases_eq, and_parts, and_from, or_cases, or_left, or_right, and_left, cases_lt, ltb-true, lt-ltb, le-ltb, eq-eqb, ne_eqb}
+use Rattle.std.proofs.lemmas.List.{get_or_past}
 use Rattle.hierarchy.specs.Kinds.{Kind}
 use Rattle.hierarchy.specs.Books.{Book, link_among}
 use Rattle.routing.specs.Climbed.{goes_up, GoesUpTo, MarksFrom, MarksLevel}
@@ -19,6 +21,19 @@ ltb_more : (x i : ℕ) → (x ≡ i → ⊥) → ltb x i ≡ ltb x (i + 1)
 ltb_more x i d = elim (cases_lt x i) [
   | inl h ↦ lt-ltb x i h ∙ sym (lt-ltb x (i + 1) (omega arith))
   | inr h ↦ le-ltb x i h ∙ sym (le-ltb x (i + 1) (omega arith))
+]
+
+pub none_marked : (n p x : ℕ) → n ≤ p → get_or (replicate n false) x false ≡ (ltb x n && eqb x p)
+none_marked n p x h = elim (cases_lt x n) [
+  | inl k ↦ get_or-replicate n x false false k ∙ sym (ap (λ t. ltb x n && t) (ne_eqb x p (λ e. omega arith)) ∙ and_false (ltb x n))
+  | inr k ↦ get_or_past (replicate n false) x false (rw length-replicate k) ∙ sym (and_left (ltb x n) _ (le-ltb x n k))
+]
+
+pub one-marked : (n p x : ℕ) → p < n → get_or (set (replicate n false) p true) x false ≡ (ltb x n && eqb x p)
+one-marked n p x h = elim (cases_eq x p) [
+  | inl e ↦ rw e (get_or-set_same (replicate n false) p true false (rw length-replicate h) ∙ sym (and_from (ltb p n) _ (lt-ltb p n h) (eq-eqb p p refl)))
+  | inr e ↦ get_or-set_other (replicate n false) p x true false e ∙ none_marked n (x + n + 1) x (omega arith) ∙
+      ap (λ t. ltb x n && t) (ne_eqb x (x + n + 1) (λ d. omega arith) ∙ sym (ne_eqb x p e))
 ]
 
 module _ {K : Kind} (n : ℕ) (book : Book K) where

@@ -72,12 +72,12 @@ module _ {C : Type 0} (k : Costs C) (q : Query C) (step : ℕ → ℕ → Option
             routed (kind_of k) (Err RouteTooLong) after list ≡ searched land book front q.from q.to table list
         answers_long w = too_long k land book front q.from q.to table after list table_left (settles true h) (subst (λ l. 256 < length l) laid_places w)
 
-        pub answers_handed : (l : Laid) → length (places_of l) ≤ 256 → places_of l ≡ laid book (chain_in k after q.from q.size q.to) →
+        pub answers_handed : (l : Laid) → places_of l ≡ laid book (chain_in k after q.from q.size q.to) →
             (r : Result (Route C) Refusal) (filled : List ℕ) → Handed k q.size q.to (places_of l) after list r filled →
             routed (kind_of k) r after filled ≡ searched land book front q.from q.to table list
-        answers_handed l short m r filled done =
+        answers_handed l m r filled done =
             let p = m ∙ laid_places in
             handed k land book front q.from q.to table after list table_left (settles true h) (subst (λ n. q.to < n) (sym e) q.ends.1)
-            (subst (λ s. length s ≤ 256) p short) r filled
+            (subst (λ s. length s ≤ 256) p l.few) r filled
             (subst (λ n. Handed k n q.to (route land book front q.from q.to) after list r filled) (sym e)
             (subst (λ s. Handed k q.size q.to s after list r filled) p done))

@@ -3,7 +3,7 @@
 --   predecessor_in  from where a place was reached, 0 past the table's end
 --   chain_in        the chain that the predecessors in a table lead back along, from a to x; k bounds the number of steps back
 --   places_of       the places of a chain
-use Rattle.std.specs.Prelude.{ℕ, zero, suc, cond, List, [], ◌∷◌, ◌++◌, Option, ◌==◌, slice_index_or}
+use Rattle.std.specs.Prelude.{ℕ, zero, suc, cond, List, [], ◌∷◌, ◌++◌, drop, Option, ◌==◌, slice_index_or}
 use Rattle.cost.specs.declared.Cost.{Ghosts as Costs}
 use Rattle.hierarchy.specs.declared.SearchRecord.{SearchRecord}
 use Rattle.hierarchy.specs.Kinds.{kind_of}
@@ -23,4 +23,4 @@ module _ {C : Type 0} (k : Costs C) where
   chain_in table a (suc j) x = cond (x == a) (x ∷ []) (chain_in table a j (predecessor_in table x) ++ (x ∷ []))
 
 abbrev pub places_of : Chain → List ℕ
-places_of chain = chain.places.items
+places_of chain = drop chain.first chain.places

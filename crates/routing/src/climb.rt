@@ -5,7 +5,6 @@ ghost use Rattle.routing.specs.Climbed.{goes_up, MarksClimbs, MarksFrom, MarksLe
 
 use cost::Cost;
 use levelling::Book;
-use std::array;
 
 /// Marks the places below `size`, and below 256, to which `from` climbs.
 pub fn climb<C: Cost>(book: &Book<C>, size: usize, from: usize) -> [bool; 256]
@@ -24,10 +23,15 @@ pub fn climb<C: Cost>(book: &Book<C>, size: usize, from: usize) -> [bool; 256]
 }
 
 // Marks one place, if it is below 256.
-fn only(marked: usize) -> [bool; 256]
-    ensures { (x : ℕ) → slice_index_or result x false ≡ (nat_lt x 256 && x == marked) }
+fn only(place: usize) -> [bool; 256]
+    ensures { (x : ℕ) → slice_index_or result x false ≡ (nat_lt x 256 && x == place) }
 {
-    array::from_fn(|place| place == marked)
+    // no `from_fn`, which asks of each of 256 places whether it is the one
+    let mut marks = [false; 256];
+    if place < 256 {
+        marks[place] = true;
+    }
+    marks
 }
 
 // The links of a book among the places below `size`.

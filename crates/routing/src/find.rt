@@ -5,15 +5,16 @@ ghost use Rattle.frontier.specs.Fronts.{Inside};
 ghost use Rattle.frontier.specs.Searching.{size as size_of, front};
 ghost use Rattle.routing.specs.Found.{whole_search, predecessor_in, chain_in, places_of};
 
-use arrayvec::ArrayVec;
 use cost::Cost;
 use frontier::{Frontier, Steps};
 use hierarchy::SearchRecord;
 
-/// A chain of places, in order, of which there are at most 257.
-#[derive(Drop)]
+/// A chain of places, in order: `places` from `first` on.
+// fixed arrays and no `ArrayVec`, which is not `Copy`
+#[derive(Clone, Copy)]
 pub struct Chain {
-    places: ArrayVec<usize, 257>,
+    pub places: [usize; 257],
+    pub first: usize,
 }
 
 impl Chain {
@@ -22,7 +23,7 @@ impl Chain {
         ensures places { result.now ≡ places_of self.now }
         ensures few { length result.now ≤ 257 }
     {
-        self.places.as_slice()
+        self.places.get(self.first..).unwrap_or(&[])
     }
 }
 
@@ -51,22 +52,24 @@ pub fn chain_back<C: Cost>(
     goal: usize,
 ) -> Chain
     requires { size ≤ 256 }
-    ensures { places_of result ≡ chain_in C.Cost table.now start size goal }
+    ensures places { places_of result ≡ chain_in C.Cost table.now start size goal }
+    ensures first { result.first ≤ 256 }
 {
-    // predecessors lead from the goal back
-    let mut places = ArrayVec::new();
-    let mut place = goal;
-    places.push(place);
+    // predecessors lead from the goal back, so the places are written from the last on
+    let mut chain = Chain {
+        places: [goal; 257],
+        first: 256,
+    };
     // at most `size` steps, so that predecessors that go in a circle come to an end too
     for _step in 0..size {
+        let place = chain.places[chain.first];
         if place == start {
-            break;
+            return chain;
         }
-        place = predecessor(table, place);
-        places.push(place);
+        chain.first -= 1;
+        chain.places[chain.first] = predecessor(table, place);
     }
-    places.reverse();
-    Chain { places }
+    chain
 }
 
 // The search in a table that has a record for each place and no other.

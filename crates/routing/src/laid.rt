@@ -1,4 +1,7 @@
 //! The places of a route.
+ghost use Rattle.std.specs.Prelude.{◌≤◌};
+ghost use Rattle.arrayvec.specs.ArrayVec.{array_vec_len};
+
 use arrayvec::ArrayVec;
 
 mod places;
@@ -7,4 +10,5 @@ mod places;
 #[derive(Drop)]
 pub struct Laid {
     places: ArrayVec<u16, 256>,
+    ghost few: { array_vec_len places ≤ 256 },
 }

@@ -117,8 +117,7 @@ impl<'a, C: Cost> Query<'a, C> {
         list: &mut [u16],
     ) -> Result<Route<C>, Refusal>
         requires { self.now.size ≤ length table.now }
-        ensures handed { Handed C.Cost self.now.size self.now.to (places_of laid.now) table.now list.old result list.new }
-        ensures few { length (places_of laid.now) ≤ 256 }
+        ensures { Handed C.Cost self.now.size self.now.to (places_of laid.now) table.now list.old result list.new }
     {
         let places = laid.places();
         if list.len() < places.len() {

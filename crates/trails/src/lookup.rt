@@ -18,6 +18,9 @@ impl<C> Record<C> {
 pub fn cost_between<C: Cost>(records: &[Record<C>], from: usize, to: usize) -> Option<C>
     ensures { result ≡ found records.now from to }
 {
-    let named = records.iter().find(|record| record.names(from, to));
+    let is_named = |record: &&Record<C>| -> bool
+        ensures { result ≡ names record.now.now from to }
+    { record.names(from, to) };
+    let named = records.iter().find(is_named);
     named.map(|record| record.cost)
 }

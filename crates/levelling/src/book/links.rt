@@ -23,6 +23,8 @@ impl<C: Cost> Book<C> {
     pub fn link(&self, size: usize, from: usize, to: usize) -> Option<C>
         ensures { result ≡ link_among (min size 256) (meaning C.Cost self.now) from to }
     {
+        // said once, so that the look-up need not ask it again
+        let size = size.min(256);
         if from >= size || to >= size || from == to {
             return None;
         }

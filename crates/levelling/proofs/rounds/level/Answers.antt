@@ -5,13 +5,16 @@ use Rattle.levelling.proofs.Fits.{book_fits}
 use Rattle.levelling.proofs.Going.{one-round, no_round, start-bounded}
 use Rattle.levelling.proofs.rounds.level.Goals as goal
 
+pub start-requires : goal.start-requires
+start-requires g c = (book_fits _ _ g.met.G.C.Cost.narrow g.met.G.C.Cost.small, c.blank-book.ensures)
+
 pub loop-lower-init : goal.loop-lower-init
 loop-lower-init g c =
     let land = land_of g.G.C.Cost g.G.Ground c.args.ground.now in
     let rule = g.R.Rule.pairs c.args.rule.now in
     let levels = c.from-lower-end.result in (
-      ap (rounds land rule (levels - 1) 1) c.start-book.ensures,
-      λ x. subst (λ n. n ≤ 1) (ap (λ b. b.level x) (sym c.start-book.ensures)) (start-bounded land rule levels x),
+      ap (rounds land rule (levels - 1) 1) c.start.ensures,
+      λ x. subst (λ n. n ≤ 1) (ap (λ b. b.level x) (sym c.start.ensures)) (start-bounded land rule levels x),
     )
 
 pub invariant_of-round : goal.invariant_of-round

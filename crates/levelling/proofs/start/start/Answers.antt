@@ -14,7 +14,7 @@ set_beaten_aside-requires g c =
     let laws = g.G.Ground.laws ground in
     let terrain = terrain_of k g.G.Ground ground in
     let shut = g.G.Ground.shuts ground in
-    let blank = c.blank-book.ensures in (
+    let blank = c.requires in (
       book_fits _ _ g.met.G.C.Cost.narrow g.met.G.C.Cost.small,
       (
         omega (arith, c.size.ensures, laws.few),
@@ -30,7 +30,7 @@ returns g c =
     let laws = g.G.Ground.laws ground in
     let terrain = terrain_of k g.G.Ground ground in
     let shut = g.G.Ground.shuts ground in
-    let blank = c.blank-book.ensures in
+    let blank = c.requires in
     started terrain shut (lawful_land terrain shut laws shut) _ _ _ (λ x. ap (λ b. b.level x) blank) (λ x y. ap (λ b. b.kept x y) blank) (ap (λ b. b.shortcuts) blank)
     c.enter_levels.ensures c.enter_ways.ensures _
     (subst (λ (n : ℕ). BeatenAside n (meaning k c.enter_ways.new.book) (meaning k c.set_beaten_aside.new.book)) c.size.ensures c.set_beaten_aside.ensures)

@@ -9,7 +9,7 @@ use Rattle.levelling.proofs.book.Book.link.Goals as goal
 pub returns-then-from-size : goal.returns-then-from-size
 returns-then-from-size g c =
     let n = min c.args.size 256 in
-    let out : (ltb c.args.from n && (ltb c.args.to n && not (eqb c.args.from c.args.to))) ≡ false = grind (arith, nat_tests, c.then-from-size.either) in
+    let out : (ltb c.args.from n && (ltb c.args.to n && not (eqb c.args.from c.args.to))) ≡ false = grind (arith, nat_tests, c.then-from-size.either, c.min-size.ensures) in
     sym (cond-false _ _ _ out)
 
 pub returns-in-Apart : goal.returns-in-Apart

@@ -24,4 +24,4 @@ returns-in_default g c land e =
 pub returns : goal.returns
 returns g c land e =
     answers_handed g.C.Cost c.args.self.now _ c.relevant_links-links.ensures _ _ c.find.ensures.table land e c.args.list.now
-    (sym c.find.ensures.found ∙ c.if-not-find.false) c.in-Ok.laid c.hand_over.ensures.few c.in-Ok.ensures _ _ c.hand_over.ensures.handed
+    (sym c.find.ensures.found ∙ c.if-not-find.false) c.in-Ok.laid c.in-Ok.ensures _ _ c.hand_over.ensures

@@ -4,8 +4,8 @@ use Rattle.frontier.specs.Fronts.{blank}
 use Rattle.routing.specs.Placed.{places_of}
 use Rattle.routing.proofs.routes.Query.hand_over.Goals as goal
 
-pub returns-clause-handed : goal.returns-clause-handed
-returns-clause-handed g c =
+pub returns : goal.returns
+returns g c =
     let places = c.places-places.result.now in
     let same : places ≡ places_of c.args.laid.now = c.places-places.ensures.places in (
       omega (arith, ap length same),
