@@ -1,7 +1,7 @@
 //! The frontier of a search: which places are reached and at what cost, which are settled, and which is settled next.
 //!
 //! It is kept in a lent record table, one record for each place, and in a row of flags for the places that wait: those reached and
-//! not settled. The functions take both rows; a `Frontier` holds them.
+//! not settled. A `Frontier` holds both, with as many flags as its type says; the functions take any rows that are long enough.
 #![tactic(auto)]
 
 ghost use Rattle.std.specs.Prelude.{◌≡◌, ℕ, ◌+◌, ◌<◌, ◌≤◌, Bool, true, false, List, length, drop, count_by, if◌then◌else◌, Some, None, Option, slice_index_or, slice_set};
@@ -117,6 +117,7 @@ pub fn nearest<C: Cost>(table: &[SearchRecord<C>], waiting: &[bool], size: usize
     ensures is { result ≡ nearest_of (front_of C.Cost size table.now waiting.now) size }
     ensures waits { Waiting size waiting.now result }
 {
+    // no chain with `min_by_key`: a cost says what is less, and has no key that is ordered
     let mut best = None;
     for place in 0..size {
         best = nearer(table, waiting, best, place);
@@ -141,6 +142,7 @@ pub fn settle<S: Steps>(
     let cost = table[place].cost;
     table[place].settled = true;
     waiting[place] = false;
+    // by number, since a step is asked for by the number of its place
     for other in 0..size {
         offer(graph, table, waiting, place, cost, other);
     }
@@ -151,6 +153,7 @@ pub fn finish<C: Cost>(table: &mut [SearchRecord<C>], size: usize)
     requires { size ≤ length table.old }
     ensures { (waiting : List Bool) → table.new ≡ table_after (front_of C.Cost size table.old waiting) size table.old }
 {
+    // by number, since the table may have more records, which stay
     for place in 0..size {
         table[place] = finished(table[place]);
     }
@@ -186,6 +189,7 @@ fn finished<C: Cost>(known: SearchRecord<C>) -> SearchRecord<C>
 }
 
 // No place is reached.
+// no `fill`: it asks for a clone that cannot fail, which no bound of a cost says
 fn clear<C: Cost>(table: &mut [SearchRecord<C>], waiting: &mut [bool], size: usize)
     requires { (size ≤ length table.old) × (size ≤ length waiting.old) }
     ensures table { table.new ≡ renewed size (λ _. blank_of C.Cost) table.old }

@@ -10,7 +10,7 @@ use frontier::{Frontier, Steps};
 use hierarchy::SearchRecord;
 
 /// A chain of places, in order: `places` from `first` on.
-// fixed arrays and no `ArrayVec`, which is not `Copy`
+// an array with its beginning and no `ArrayVec`, which is not `Copy`
 #[derive(Clone, Copy)]
 pub struct Chain {
     pub places: [usize; 257],

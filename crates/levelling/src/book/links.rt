@@ -23,7 +23,7 @@ impl<C: Cost> Book<C> {
     pub fn link(&self, size: usize, from: usize, to: usize) -> Option<C>
         ensures { result ≡ link_among (min size 256) (meaning C.Cost self.now) from to }
     {
-        // said once, so that the look-up need not ask it again
+        // with the size cut to 256 the two are below 256, and the look-up costs no test of that
         let size = size.min(256);
         if from >= size || to >= size || from == to {
             return None;
